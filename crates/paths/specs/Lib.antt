@@ -1,0 +1,4 @@
+pub mod Algebra
+pub mod Closure
+pub mod Models
+pub mod Walks

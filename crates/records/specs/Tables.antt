@@ -1,0 +1,10 @@
+-- The records that stand for what lies past a table's end.
+use Prim.Native.Nat.{ℕ}
+use Rattle.records.specs.declared.tables.Actor.{Actor}
+use Rattle.records.specs.declared.tables.Link.{Link}
+
+abbrev pub no-actor : Actor
+no-actor = record { processor = 0; estimate = 0 }
+
+abbrev pub no-link : Link
+no-link = record { sender = 0; receiver = 0; delay = 0; mark = 0; size = 0 }

@@ -1,0 +1,8 @@
+// The records that every stage shares: what a drawing is made of, and how one is refused.
+mod fault;
+mod tables;
+
+pub use fault::Fault;
+pub use fault::Layer;
+pub use tables::Actor;
+pub use tables::Link;
