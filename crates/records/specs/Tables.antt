@@ -1,6 +1,7 @@
--- The records that stand for what lies past a table's end.
+-- Edges, and the records that stand for what lies past a table's end.
 use Prim.Native.Nat.{ℕ}
 use Rattle.records.specs.declared.tables.Actor.{Actor}
+use Rattle.records.specs.declared.tables.Edge.{Edge}
 use Rattle.records.specs.declared.tables.Link.{Link}
 
 abbrev pub no-actor : Actor
@@ -8,3 +9,10 @@ no-actor = record { processor = 0; estimate = 0 }
 
 abbrev pub no-link : Link
 no-link = record { sender = 0; receiver = 0; delay = 0; mark = 0; size = 0 }
+
+abbrev pub edge : ℕ → ℕ → ℕ → Edge
+edge u v d = record { sender = u; receiver = v; delay = d }
+
+-- every link, a local one too, is an edge
+abbrev pub link-edge : Link → Edge
+link-edge l = edge (l .sender) (l .receiver) (l .delay)

@@ -5,4 +5,5 @@ mod tables;
 pub use fault::Fault;
 pub use fault::Layer;
 pub use tables::Actor;
+pub use tables::Edge;
 pub use tables::Link;

@@ -1,4 +1,4 @@
-// The records of the two tables that a caller lends.
+// The records of the two tables that a caller lends, and the edges that they stand for.
 
 /// A task in the fixed order of its processor.
 #[derive(Clone, Copy, PartialEq, Eq, Debug)]
@@ -19,4 +19,12 @@ pub struct Link {
     pub mark: u8,
     /// The cells of the link's buffer.
     pub size: u32,
+}
+
+/// An edge of the graph that the actors span: a link, or a step of a processor's order.
+#[derive(Clone, Copy, PartialEq, Eq, Debug)]
+pub struct Edge {
+    pub sender: usize,
+    pub receiver: usize,
+    pub delay: u32,
 }
