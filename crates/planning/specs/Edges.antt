@@ -1,7 +1,7 @@
 -- The edges of a drawing: the processors' orders, and the links.
 use mathlib.Core.Bool.{Bool, cond, _&&_}
 use mathlib.Core.List.{List, [], _∷_, _++_, map}
-use Prim.Native.Nat.{ℕ, zero, suc, _+_}
+use Prim.Native.Nat.{ℕ, zero, suc, _+_, _<_}
 use lib.Dec.{eqb, leb}
 use lib.ListN.{length, getD}
 use Rattle.std.specs.Iters.{counting}
@@ -43,3 +43,8 @@ twins e f = eqb (e .sender) (f .sender) && (eqb (e .receiver) (f .receiver) && e
 abbrev pub without : ℕ → Edge → ℕ → List Edge → List Edge
 without i e j [] = []
 without i e j (f ∷ fs) = cond (leb i j && twins e f) (without i e (j + 1) fs) (f ∷ without i e (j + 1) fs)
+
+-- the ends of each edge are below n
+abbrev pub Within : ℕ → List Edge → Type 0
+Within n [] = Unit {0}
+Within n (e ∷ es) = ((e .sender < n) × (e .receiver < n)) × Within n es

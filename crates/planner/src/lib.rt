@@ -1,0 +1,3 @@
+// Planning: from the tables of a drawing to its plan.
+mod edges;
+mod tables;
