@@ -52,11 +52,15 @@ pub impl Algebra for Reach as ReachAlgebra {
     }
 
     fn choose(self, other: Reach) -> Reach {
-        Reach { yes: self.yes | other.yes }
+        Reach {
+            yes: self.yes | other.yes,
+        }
     }
 
     fn follow(self, other: Reach) -> Reach {
-        Reach { yes: self.yes & other.yes }
+        Reach {
+            yes: self.yes & other.yes,
+        }
     }
 }
 
@@ -79,10 +83,14 @@ pub impl Algebra for Delay as DelayAlgebra {
     }
 
     fn choose(self, other: Delay) -> Delay {
-        Delay { value: self.value.min(other.value) }
+        Delay {
+            value: self.value.min(other.value),
+        }
     }
 
     fn follow(self, other: Delay) -> Delay {
-        Delay { value: self.value.saturating_add(other.value) }
+        Delay {
+            value: self.value.saturating_add(other.value),
+        }
     }
 }

@@ -51,10 +51,18 @@ pub fn close<T: Algebra>(cells: &mut [T], n: usize) -> Result<(), Fault>
     ensures paths { λ r. ⌜ (leb (n * n) (length (now (cells .entry))) ≡ true → (u v : ℕ) → u < n → v < n → Chosen ops (entry ops (now (cells .entry)) n) n u v (entry ops (now (cells .exit)) n u v)) ⌝ }
 {
     let Some(count) = n.checked_mul(n) else {
-        return Err(Fault { number: 8, layer: Layer::Table, place: 0 });
+        return Err(Fault {
+            number: 8,
+            layer: Layer::Table,
+            place: 0,
+        });
     };
     if count > cells.len() {
-        return Err(Fault { number: 8, layer: Layer::Table, place: 0 });
+        return Err(Fault {
+            number: 8,
+            layer: Layer::Table,
+            place: 0,
+        });
     }
     for k in 0..n {
         relax_all(cells, n, k);
