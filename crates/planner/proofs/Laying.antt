@@ -3,8 +3,6 @@ use mathlib.Core.Path.{_≡_, refl, ap, sym, _∙_}
 use mathlib.Core.Bool.{cond, true, false, _&&_}
 use mathlib.Core.List.{List, [], _∷_, _++_, map}
 use Prim.Native.Nat.{ℕ, suc, _+_, _-_, _*_, _<_, _≤_}
-use native.Mathlib.Numerals.{add-one}
-use native.Mathlib.Omega.{arith}
 use lib.Dec.{leb}
 use lib.ListN.{length, getD, set, drop, replicate}
 use Rattle.std.specs.Iters.{counting}
@@ -18,6 +16,7 @@ use Rattle.paths.specs.Algebra.{Ops}
 use Rattle.planning.specs.declared.Sight.{Sight}
 use Rattle.planning.specs.Edges.{order-edge, twins, without}
 use Rattle.planning.specs.Tables.{lay-seen, laid}
+use Rattle.planner.proofs.Counting.{counting-more}
 
 -- one more of the first cells is cleared
 pub clear-more : {M : Type 0} (cells : List M) (v : M) (i : ℕ) → i < length cells
@@ -35,10 +34,8 @@ module _ {M : Type 0} (s : Sight) (o : Ops M) (n : ℕ) where
       → laid s o n after (map (order-edge actors) (counting (v + 1) (n - (v + 1))))
       ≡ laid s o n cells (map (order-edge actors) (counting v (n - v)))
   laid-order-more actors v cells after h e =
-      let left : counting v (n - v) ≡ v ∷ counting (v + 1) (n - (v + 1)) =
-        let k : n - v ≡ (n - (v + 1)) + 1 = omega arith in ap (counting v) (k ∙ add-one (n - (v + 1))) in
       ap (λ xs. laid s o n xs (map (order-edge actors) (counting (v + 1) (n - (v + 1))))) e
-      ∙ sym (ap (λ vs. laid s o n cells (map (order-edge actors) vs)) left)
+      ∙ sym (ap (λ vs. laid s o n cells (map (order-edge actors) vs)) (counting-more v n h))
 
   -- the links from number j on
   abbrev links-left : ℕ → Edge → List Link → ℕ → List Edge

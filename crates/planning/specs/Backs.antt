@@ -41,11 +41,15 @@ abbrev pub heads-among : Ground → End → ℕ → List ℕ → List ℕ
 heads-among g end p [] = []
 heads-among g end p (u ∷ us) = cond (heads g end p u) (u ∷ heads-among g end p us) (heads-among g end p us)
 
--- a link of delay 0 from each group to the next, after the one that is headed by an earlier actor, if any
+-- a link of delay 0 from the group that is headed by an earlier actor, if any, to that headed by u
+abbrev pub link-from : Ground → Option ℕ → ℕ → List Link
+link-from g None u = []
+link-from g (Some w) u = back-link (stand g w) (stand g u) 0 ∷ []
+
+-- such links from each group to the next
 abbrev pub chain : Ground → Option ℕ → List ℕ → List Link
 chain g earlier [] = []
-chain g None (u ∷ us) = chain g (Some u) us
-chain g (Some w) (u ∷ us) = back-link (stand g w) (stand g u) 0 ∷ chain g (Some u) us
+chain g earlier (u ∷ us) = link-from g earlier u ++ chain g (Some u) us
 
 -- the first and the last of us, or p where there is none
 abbrev pub first-of : ℕ → List ℕ → ℕ

@@ -48,6 +48,10 @@ check-tables actors links m lead delays-length reach-length =
     then (refuse-first bad-actor 9 Table 0 actors) (λ _.
     refuse-first (bad-link (length actors)) 10 Table 0 (take m links)))
 
+-- a delay-free path leads from u to itself
+abbrev pub on-cycle : ℕ → List Reach → ℕ → Bool
+on-cycle n free u = entry reach-ops free n u u .yes
+
 -- the lowest actor on a delay-free cycle
 unfoldable pub check-cycles : ℕ → List Reach → Result Unit Fault
-check-cycles n free = refuse-first (λ u. entry reach-ops free n u u .yes) 11 Plan 0 (counting 0 n)
+check-cycles n free = refuse-first (on-cycle n free) 11 Plan 0 (counting 0 n)
