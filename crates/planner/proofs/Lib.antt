@@ -6,3 +6,9 @@ pub mod Below
 pub mod Stands
 pub mod Heads
 pub mod Appended
+pub mod Bounded
+pub mod Filling
+pub mod Rewriting
+pub mod Soundness
+pub mod Exits
+pub mod Surveying

@@ -2,9 +2,11 @@
 ghost use mathlib.Core.Path.{_≡_};
 ghost use Prim.Native.Nat.{_+_, _*_, _<_, _≤_};
 ghost use lib.ListN.{length};
+ghost use Rattle.std.specs.Vec.{made};
 ghost use Rattle.records.specs.declared.fault.Layer.the-variants.{Table};
 ghost use Rattle.records.specs.Faults.{fault};
-ghost use Rattle.planning.specs.Checks.{bad-actor, bad-link, refuse-first, check-counts, check-cycles};
+ghost use Rattle.planning.specs.Checks.{bad-actor, bad-link, refuse-first, check-counts, check-tables, check-cycles};
+ghost use Rattle.planner.specs.Within.{Sound};
 use crate::tables::place;
 use paths::Reach;
 use records::Actor;
@@ -77,6 +79,16 @@ pub(crate) fn check_links(links: &[Link], n: usize) -> Result<(), Fault>
         }
     }
     Ok(())
+}
+
+// All that is refused about counts, tables and numbers.
+pub(crate) fn check_tables(actors: &[Actor], links: &[Link], given: usize, lead: u32, delays: usize, reach: usize) -> Result<(), Fault>
+    ensures answer { λ r. ⌜ r ≡ check-tables (now (actors .entry)) (now (links .entry)) given lead delays reach ⌝ }
+    ensures sound { λ r. ⌜ made r (λ _. Sound (length (now (actors .entry))) (now (links .entry)) given delays reach) ⌝ }
+{
+    check_counts(actors.len(), given, links.len(), lead, delays, reach)?;
+    check_actors(actors)?;
+    check_links(&links[0..given], actors.len())
 }
 
 // The lowest actor on a delay-free cycle, by the table of who is reached by delay-free edges.

@@ -13,6 +13,7 @@ use crate::edges::are_twins;
 use crate::edges::edge_of;
 use crate::edges::order_edge;
 use paths::Algebra;
+use paths::close;
 use planning::Sight;
 use records::Actor;
 use records::Edge;
@@ -96,4 +97,30 @@ fn lay_links<T: Algebra>(cells: &mut [T], sight: Sight, n: usize, links: &[Link]
             lay_seen(cells, sight, n, edge);
         }
     }
+}
+
+// The values of the best paths over the orders and the links, but for the links that are numbered `skip` or higher
+// and are twins of `like`; later cells stand.
+pub(crate) fn fill_without<T: Algebra>(cells: &mut [T], sight: Sight, actors: &[Actor], links: &[Link], skip: usize, like: Edge)
+    requires few { ⌜ length (now actors) ≤ 64 ⌝ }
+    requires room { ⌜ length (now actors) * length (now actors) ≤ length (now cells) ⌝ }
+    requires ends { ⌜ Ends-below (length (now actors)) (now links) ⌝ }
+    ensures { λ _. ⌜ now (cells .exit) ≡ paths-over sight ops (length (now (actors .entry))) (orders (now (actors .entry)) ++ without skip like 0 (map link-edge (now (links .entry)))) ++ drop (length (now (actors .entry)) * length (now (actors .entry))) (now (cells .entry)) ⌝ }
+{
+    let n = actors.len();
+    clear(cells, n * n);
+    lay_orders(cells, sight, actors);
+    lay_links(cells, sight, n, links, skip, like);
+    // The table is long enough, so the closure does not refuse.
+    let _ = close(cells, n);
+}
+
+// The same over the orders and all links.
+pub(crate) fn fill<T: Algebra>(cells: &mut [T], sight: Sight, actors: &[Actor], links: &[Link])
+    requires few { ⌜ length (now actors) ≤ 64 ⌝ }
+    requires room { ⌜ length (now actors) * length (now actors) ≤ length (now cells) ⌝ }
+    requires ends { ⌜ Ends-below (length (now actors)) (now links) ⌝ }
+    ensures { λ _. ⌜ now (cells .exit) ≡ paths-over sight ops (length (now (actors .entry))) (orders (now (actors .entry)) ++ map link-edge (now (links .entry))) ++ drop (length (now (actors .entry)) * length (now (actors .entry))) (now (cells .entry)) ⌝ }
+{
+    fill_without(cells, sight, actors, links, links.len(), Edge { sender: 0, receiver: 0, delay: 0 });
 }

@@ -19,7 +19,10 @@ abbrev pub cost-before : List Actor → ℕ → List Delay → List Link → ℕ
 cost-before actors n delays [] = 0
 cost-before actors n delays (l ∷ ls) = link-cost-before actors n delays l + cost-before actors n delays ls
 
--- 2 for each kept or back link, by the marks
+-- 2 for a kept or back link, by its mark
+abbrev pub link-cost-after : Link → ℕ
+link-cost-after l = cond (eqb (l .mark) 1 || eqb (l .mark) 3) 2 0
+
 abbrev pub cost-after : List Link → ℕ
 cost-after [] = 0
-cost-after (l ∷ ls) = cond (eqb (l .mark) 1 || eqb (l .mark) 3) 2 0 + cost-after ls
+cost-after (l ∷ ls) = link-cost-after l + cost-after ls

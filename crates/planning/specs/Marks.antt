@@ -34,11 +34,18 @@ mark-of actors links i e = cond (local actors e) 2 (cond (redundant actors links
 abbrev pub with-mark : Link → ℕ → Link
 with-mark l k = record { sender = l .sender; receiver = l .receiver; delay = l .delay; mark = k; size = l .size }
 
--- the given links from number i on, each with its mark; links are the edges of all, back links too
-abbrev pub marked : List Actor → List Edge → ℕ → List Link → List Link
-marked actors links i [] = []
-marked actors links i (l ∷ ls) =
-    with-mark l (mark-of actors links i (link-edge l)) ∷ marked actors links (i + 1) ls
+-- each element with its number, counted from k
+abbrev pub numbered : {X : Type 0} → (ℕ → X → X) → ℕ → List X → List X
+numbered f k [] = []
+numbered f k (x ∷ xs) = f k x ∷ numbered f (k + 1) xs
+
+-- the link with number i, marked; links are the edges of all links, back links too
+abbrev pub mark-link : List Actor → List Edge → ℕ → Link → Link
+mark-link actors links i l = with-mark l (mark-of actors links i (link-edge l))
+
+-- the given links, each with its mark
+abbrev pub marked : List Actor → List Edge → List Link → List Link
+marked actors links ls = numbered (mark-link actors links) 0 ls
 
 abbrev pub with-size : Link → ℕ → Link
 with-size l k = record { sender = l .sender; receiver = l .receiver; delay = l .delay; mark = l .mark; size = k }
@@ -49,5 +56,8 @@ size-of n delays l =
     cond (eqb (l .mark) 2) 0
     (delay-ops .follow (delay-ops .edge (l .delay)) (entry delay-ops delays n (l .receiver) (l .sender)) .value)
 
+abbrev pub size-link : ℕ → List Delay → Link → Link
+size-link n delays l = with-size l (size-of n delays l)
+
 abbrev pub sized : ℕ → List Delay → List Link → List Link
-sized n delays ls = map (λ l. with-size l (size-of n delays l)) ls
+sized n delays ls = map (size-link n delays) ls

@@ -28,6 +28,10 @@ pub record Given : Type 0 where
   pub delays : List Delay
   pub reach : List Reach
 
+abbrev pub drawing : List Actor → List Link → ℕ → ℕ → List Delay → List Reach → Given
+drawing actors links given lead delays reach =
+    record { actors = actors; links = links; given = given; lead = lead; delays = delays; reach = reach }
+
 -- the answer, and what the lent memory holds afterwards
 pub record Outcome (X : Type 0) : Type 0 where
   pub answer : Result X Fault
@@ -64,21 +68,34 @@ abbrev pub unless : {X : Type 0} → Result Unit Fault → (Fault → Outcome X)
 unless (Ok _) refusal go = go
 unless (Err f) refusal go = refusal f
 
+-- counts, tables and numbers
+abbrev pub tables-check : Given → Result Unit Fault
+tables-check d = check-tables (d .actors) (d .links) (d .given) (d .lead) (length (d .delays)) (length (d .reach))
+
+-- who is reached by delay-free edges
+abbrev pub free-paths : Given → List Reach
+free-paths d = delay-free (length (d .actors)) (base-edges d)
+
+-- the least delays without back links
+abbrev pub base-delays : Given → List Delay
+base-delays d = least-delays (length (d .actors)) (base-edges d)
+
+abbrev pub cycles-check : Given → Result Unit Fault
+cycles-check d = check-cycles (length (d .actors)) (free-paths d)
+
+abbrev pub deadlocked : {X : Type 0} → Given → Fault → Outcome X
+deadlocked d f = record { answer = Err f; links = d .links; delays = d .delays; reach = over (free-paths d) (d .reach) }
+
+abbrev pub live : Given → Outcome Unit
+live d = record { answer = Ok tt; links = d .links; delays = over (base-delays d) (d .delays); reach = over (free-paths d) (d .reach) }
+
 -- the checks up to deadlock, and the least delays without back links
 unfoldable pub surveyed : Given → Outcome Unit
-surveyed d =
-    let n = length (d .actors) in
-    let free = delay-free n (base-edges d) in
-    unless (check-tables (d .actors) (d .links) (d .given) (d .lead) (length (d .delays)) (length (d .reach))) (refused d)
-    (unless (check-cycles n free)
-      (λ f. record { answer = Err f; links = d .links; delays = d .delays; reach = over free (d .reach) })
-      (record { answer = Ok tt; links = d .links; delays = over (least-delays n (base-edges d)) (d .delays); reach = over free (d .reach) }))
+surveyed d = unless (tables-check d) (refused d) (unless (cycles-check d) (deadlocked d) (live d))
 
 -- what the groups of the drawing are read off
 abbrev pub ground : Given → Ground
-ground d =
-    let n = length (d .actors) in
-    record { actors = d .actors; delays = least-delays n (base-edges d); joined = parts n (base-edges d) }
+ground d = record { actors = d .actors; delays = base-delays d; joined = parts (length (d .actors)) (base-edges d) }
 
 -- the back links, without their sizes
 abbrev pub back-links : Given → List Link
@@ -95,7 +112,7 @@ plan-delays d = least-delays (length (d .actors)) (edges-with d (all-links d))
 unfoldable pub plan-links : Given → List Link
 plan-links d =
     sized (length (d .actors)) (plan-delays d)
-    (marked (d .actors) (map link-edge (all-links d)) 0 (take (d .given) (d .links)) ++ back-links d)
+    (marked (d .actors) (map link-edge (all-links d)) (take (d .given) (d .links)) ++ back-links d)
 
 unfoldable pub plan-totals : Given → Totals
 plan-totals d = record {
@@ -103,7 +120,7 @@ plan-totals d = record {
   given = d .given;
   back = length (back-links d);
   lead = d .lead;
-  before = cost-before (d .actors) (length (d .actors)) (ground d .delays) (take (d .given) (d .links));
+  before = cost-before (d .actors) (length (d .actors)) (base-delays d) (take (d .given) (d .links));
   after = cost-after (plan-links d);
 }
 
@@ -116,10 +133,5 @@ accepted d = record {
   reach = over (ground d .joined) (d .reach);
 }
 
--- a survey that refused is the answer; else the drawing is planned
-abbrev pub after-survey : Given → Outcome Unit → Outcome Totals
-after-survey d s =
-    unless (s .answer) (λ f. record { answer = Err f; links = s .links; delays = s .delays; reach = s .reach }) (accepted d)
-
 unfoldable pub planned : Given → Outcome Totals
-planned d = after-survey d (surveyed d)
+planned d = unless (tables-check d) (refused d) (unless (cycles-check d) (deadlocked d) (accepted d))

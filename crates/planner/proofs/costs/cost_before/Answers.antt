@@ -1,0 +1,17 @@
+use native.Mathlib.Omega.{arith}
+use lib.ListN.{length}
+use Rattle.std.proofs.shelf.Lists.{at-drop-more, at-drop-all}
+use Rattle.records.specs.Tables.{no-link}
+use Rattle.planning.specs.Costs.{cost-before}
+use Rattle.planner.proofs.costs.cost_before.Needs as need
+
+pub loop-i-again : need.loop-i-again
+loop-i-again c =
+    let next = at-drop-more (cost-before (c .args .ground .now .actors .now) (length (c .args .ground .now .actors .now)) (c .args .ground .now .delays .now)) (c .args .links .now) (c .loop-i .i) no-link (c .loop-i-test .taken) in
+    let call = c .link-cost-before-cost .ensures in
+    (omega (arith, next, call .value, c .loop-i .inv .0), omega (arith, call .bound, c .loop-i .inv .1))
+
+pub returns : need.returns
+returns c =
+    let none = at-drop-all (cost-before (c .args .ground .now .actors .now) (length (c .args .ground .now .actors .now)) (c .args .ground .now .delays .now)) (c .args .links .now) (c .loop-i .i) (c .loop-i-test .left) in
+    omega (arith, none, c .loop-i .inv .0)
