@@ -31,11 +31,11 @@ ends-more n links at l within known ends k h =
     let P : Link → Type 0 = λ x. (x .sender < n) × (x .receiver < n) in
     ⊎-elim
     (λ (b : k < at).
-      let ne : k ≢ at = omega arith in
-      subst P (sym (here ∙ getD-set-other links at k l no-link ne ∙ sym (getD-take at links k no-link b))) (known k (omega arith)))
+    let ne : k ≢ at = omega arith in
+    subst P (sym (here ∙ getD-set-other links at k l no-link ne ∙ sym (getD-take at links k no-link b))) (known k (omega arith)))
     (λ (b : at ≤ k).
-      let e : at ≡ k = omega arith in
-      subst P (sym (here ∙ ap (λ i. getD (set links at l) i no-link) (sym e) ∙ getD-set-same links at l no-link within)) ends)
+    let e : at ≡ k = omega arith in
+    subst P (sym (here ∙ ap (λ i. getD (set links at l) i no-link) (sym e) ∙ getD-set-same links at l no-link within)) ends)
     (cases-lt k at)
 
 -- links are appended to a table: of the whole the rest is still to come, and the ends of what stands are below n
@@ -56,8 +56,8 @@ module _ (n limit : ℕ) (links : List Link) (at : ℕ) (whole : List Link) (aft
       → next′ ≤ limit → Ends-below n (take next′ later) → Doing n limit links at whole later next′ ys
   doing-more xs ys later next′ e a b le ends = record {
     table =
-      ap (λ ls. put-all limit ls next′ ys) a ∙ ap (λ k. put-all limit (put-all limit after next xs) k ys) b
-      ∙ sym (put-all-append limit after next xs ys) ∙ ap (put-all limit after next) (sym e) ∙ doing .table;
+        ap (λ ls. put-all limit ls next′ ys) a ∙ ap (λ k. put-all limit (put-all limit after next xs) k ys) b
+        ∙ sym (put-all-append limit after next xs ys) ∙ ap (put-all limit after next) (sym e) ∙ doing .table;
     end = ap (λ k. put-end limit k ys) b ∙ sym (put-end-append limit next xs ys) ∙ ap (put-end limit next) (sym e) ∙ doing .end;
     within = le;
     ends = ends;

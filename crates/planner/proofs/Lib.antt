@@ -12,3 +12,6 @@ pub mod Rewriting
 pub mod Soundness
 pub mod Exits
 pub mod Surveying
+pub mod Placed
+pub mod Finishing
+pub mod Planned

@@ -21,7 +21,7 @@ still-here front xs i d e =
     getD-append-right front (drop i xs) i i d e (omega arith) ∙ getD-drop i xs (i - i) d ∙ ap (λ k. getD xs k d) at
 
 module _ {X : Type 0} (f : ℕ → X → X) where
-  length-numbered : (k : ℕ) (xs : List X) → length (numbered f k xs) ≡ length xs
+  pub length-numbered : (k : ℕ) (xs : List X) → length (numbered f k xs) ≡ length xs
   length-numbered k [] = refl
   length-numbered k (x ∷ xs) = ap suc (length-numbered (k + 1) xs)
 
@@ -39,7 +39,7 @@ module _ {X : Type 0} (f : ℕ → X → X) where
       ∙ set-at (numbered f 0 (take i xs)) (getD xs i d) (drop (i + 1) xs) new i long
       ∙ sym (append-assoc (numbered f 0 (take i xs)) (new ∷ []) (drop (i + 1) xs))
       ∙ ap (λ ys. ys ++ drop (i + 1) xs)
-        (sym (ap (numbered f 0) (take-more xs i d h) ∙ numbered-push 0 (take i xs) (getD xs i d) i (zero-add (length (take i xs)) ∙ length-take-le i xs (omega arith))))
+      (sym (ap (numbered f 0) (take-more xs i d h) ∙ numbered-push 0 (take i xs) (getD xs i d) i (zero-add (length (take i xs)) ∙ length-take-le i xs (omega arith))))
 
 -- marks leave the edges as they are
 edges-numbered : (actors : List Actor) (es : List Edge) (k : ℕ) (ls : List Link) → map link-edge (numbered (mark-link actors es) k ls) ≡ map link-edge ls
@@ -68,8 +68,8 @@ module _ (actors : List Actor) (es : List Edge) (xs ys : List Link) (i : ℕ) (i
       let here : getD ys i no-link ≡ getD xs i no-link = ap (λ ls. getD ls i no-link) is ∙ still-here (marked actors es (take i xs)) xs i no-link long in
       let front : getD (take (all - 0) ys) i no-link ≡ getD xs i no-link = getD-take (all - 0) ys i no-link (omega arith) ∙ here in
       let said : mark ≡ mark-of actors es i (link-edge (getD xs i no-link)) =
-        m ∙ ap (λ fs. mark-of actors fs i (link-edge (getD (take (all - 0) ys) i no-link))) (front-edges-kept all ∙ sym e)
-        ∙ ap (λ l. mark-of actors es i (link-edge l)) front in
+      m ∙ ap (λ fs. mark-of actors fs i (link-edge (getD (take (all - 0) ys) i no-link))) (front-edges-kept all ∙ sym e)
+      ∙ ap (λ l. mark-of actors es i (link-edge l)) front in
       ap (λ l. set ys i (with-mark l mark)) here ∙ ap (λ k. set ys i (with-mark (getD xs i no-link) k)) said
       ∙ ap (λ ls. set ls i (mark-link actors es i (getD xs i no-link))) is ∙ numbered-more (mark-link actors es) xs i no-link within
 

@@ -69,10 +69,10 @@ sound actors links given lead delays reach ok =
       delays-room = ltb-false delays (n * n) (eight .0);
       reach-room = ltb-false reach (n * n) (eight .1);
       ends = λ k h.
-        let l = getD (take given links) k no-link in
-        let fine = or-parts (leb n (l .sender)) (leb n (l .receiver) || ltb 1000 (l .delay)) (none-bad (bad-link n) 10 Table 0 (take given links) no-link links-ok k h) in
-        let also = or-parts (leb n (l .receiver)) (ltb 1000 (l .delay)) (fine .1) in
-        (leb-false n (l .sender) (fine .0), leb-false n (l .receiver) (also .0));
+          let l = getD (take given links) k no-link in
+          let fine = or-parts (leb n (l .sender)) (leb n (l .receiver) || ltb 1000 (l .delay)) (none-bad (bad-link n) 10 Table 0 (take given links) no-link links-ok k h) in
+          let also = or-parts (leb n (l .receiver)) (ltb 1000 (l .delay)) (fine .1) in
+          (leb-false n (l .sender) (fine .0), leb-false n (l .receiver) (also .0));
     }
 
 -- the same of a call's answer

@@ -1,3 +1,5 @@
 pub mod Within
 pub mod Appending
 pub mod Views
+pub mod Slips
+pub mod Steps

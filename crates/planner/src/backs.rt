@@ -31,7 +31,7 @@ fn append(links: &mut [Link], at: usize, limit: usize, link: Link, n: usize) -> 
     }
 }
 
-impl Ground<'_> {
+impl Ground<'_, '_, '_> {
     // Whether u is the lowest actor of an entry or exit group in the part of p.
     fn heads(&self, end: End, p: usize, u: usize) -> bool
         requires { ⌜ (p < length (now (now self .actors))) × (u < length (now (now self .actors))) ⌝ }
@@ -77,11 +77,24 @@ impl Ground<'_> {
     {
         let sender = self.stand_in(w) as u32;
         let receiver = self.stand_in(u) as u32;
-        Link { sender, receiver, delay, mark: 3, size: 0 }
+        Link {
+            sender,
+            receiver,
+            delay,
+            mark: 3,
+            size: 0,
+        }
     }
 
     // Joins the group that is headed by an earlier actor, if any, to that headed by u.
-    fn link_from(&self, earlier: Option<usize>, u: usize, links: &mut [Link], at: usize, limit: usize) -> usize
+    fn link_from(
+        &self,
+        earlier: Option<usize>,
+        u: usize,
+        links: &mut [Link],
+        at: usize,
+        limit: usize,
+    ) -> usize
         requires actors { ⌜ found earlier (λ w. w < length (now (now self .actors))) × (u < length (now (now self .actors))) ⌝ }
         requires room { ⌜ limit ≤ length (now links) ⌝ }
         requires within { ⌜ at ≤ limit ⌝ }
@@ -134,7 +147,13 @@ impl Ground<'_> {
         let left = self.chain(End::Exit, p, links, entered, limit);
         let from = self.last_group(End::Exit, p);
         let to = self.first_group(End::Entry, p);
-        append(links, left, limit, self.back_link(from, to, lead), self.actors.len())
+        append(
+            links,
+            left,
+            limit,
+            self.back_link(from, to, lead),
+            self.actors.len(),
+        )
     }
 
     // Whether p is the lowest actor of a part of several groups.

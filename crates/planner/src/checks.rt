@@ -15,21 +15,36 @@ use records::Layer;
 use records::Link;
 
 const ACTORS: usize = 64;
+
 const LINKS: usize = 256;
 /// How many back links the link table has room for.
 pub(crate) const BACKS: usize = 15;
+
 const PROCESSORS: u32 = 16;
+
 const LONGEST_ESTIMATE: u32 = 1_000_000;
+
 const LONGEST_DELAY: u32 = 1_000;
 
 fn table_fault(number: u8, place: usize) -> Fault
     ensures { λ r. ⌜ r ≡ fault number Table place ⌝ }
 {
-    Fault { number, layer: Layer::Table, place }
+    Fault {
+        number,
+        layer: Layer::Table,
+        place,
+    }
 }
 
 // The counts, the lengths of what is lent, and the lead.
-pub(crate) fn check_counts(n: usize, m: usize, links: usize, lead: u32, delays: usize, reach: usize) -> Result<(), Fault>
+pub(crate) fn check_counts(
+    n: usize,
+    m: usize,
+    links: usize,
+    lead: u32,
+    delays: usize,
+    reach: usize,
+) -> Result<(), Fault>
     ensures { λ r. ⌜ r ≡ check-counts n m links lead delays reach ⌝ }
 {
     if n == 0 || n > ACTORS {
@@ -82,7 +97,14 @@ pub(crate) fn check_links(links: &[Link], n: usize) -> Result<(), Fault>
 }
 
 // All that is refused about counts, tables and numbers.
-pub(crate) fn check_tables(actors: &[Actor], links: &[Link], given: usize, lead: u32, delays: usize, reach: usize) -> Result<(), Fault>
+pub(crate) fn check_tables(
+    actors: &[Actor],
+    links: &[Link],
+    given: usize,
+    lead: u32,
+    delays: usize,
+    reach: usize,
+) -> Result<(), Fault>
     ensures answer { λ r. ⌜ r ≡ check-tables (now (actors .entry)) (now (links .entry)) given lead delays reach ⌝ }
     ensures sound { λ r. ⌜ made r (λ _. Sound (length (now (actors .entry))) (now (links .entry)) given delays reach) ⌝ }
 {
@@ -100,7 +122,11 @@ pub(crate) fn check_cycles(free: &[Reach], n: usize) -> Result<(), Fault>
     for u in 0..n {
         let at = place(n, u, u);
         if free[at].yes {
-            return Err(Fault { number: 11, layer: Layer::Plan, place: u });
+            return Err(Fault {
+                number: 11,
+                layer: Layer::Plan,
+                place: u,
+            });
         }
     }
     Ok(())

@@ -32,10 +32,22 @@ pub(crate) fn order_edge(actors: &[Actor], v: usize) -> Edge
 {
     let processor = actors[v].processor;
     match last_on(actors, processor, v) {
-        Some(before) => Edge { sender: before, receiver: v, delay: 0 },
+        Some(before) => Edge {
+            sender: before,
+            receiver: v,
+            delay: 0,
+        },
         None => match last_on(actors, processor, actors.len()) {
-            Some(last) => Edge { sender: last, receiver: v, delay: 1 },
-            None => Edge { sender: v, receiver: v, delay: 1 },
+            Some(last) => Edge {
+                sender: last,
+                receiver: v,
+                delay: 1,
+            },
+            None => Edge {
+                sender: v,
+                receiver: v,
+                delay: 1,
+            },
         },
     }
 }
@@ -43,7 +55,11 @@ pub(crate) fn order_edge(actors: &[Actor], v: usize) -> Edge
 pub(crate) fn edge_of(link: Link) -> Edge
     ensures { λ r. ⌜ r ≡ link-edge link ⌝ }
 {
-    Edge { sender: link.sender as usize, receiver: link.receiver as usize, delay: link.delay }
+    Edge {
+        sender: link.sender as usize,
+        receiver: link.receiver as usize,
+        delay: link.delay,
+    }
 }
 
 // Whether two edges have equal sender, receiver and delay.

@@ -8,7 +8,7 @@ use crate::ground::Ground;
 use crate::tables::place;
 use planning::End;
 
-impl Ground<'_> {
+impl Ground<'_, '_, '_> {
     // Whether some path leads from u to v.
     fn reaches(&self, u: usize, v: usize) -> bool
         requires { ⌜ (u < length (now (now self .actors))) × (v < length (now (now self .actors))) ⌝ }

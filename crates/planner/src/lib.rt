@@ -6,8 +6,11 @@ mod edges;
 mod ground;
 mod groups;
 mod marks;
+mod plans;
 mod sizes;
 mod surveys;
 mod tables;
 
+pub use plans::Slip;
+pub use plans::plan;
 pub use surveys::survey;

@@ -17,7 +17,9 @@ use records::Edge;
 use records::Link;
 
 const DROPPED: u8 = 0;
+
 const KEPT: u8 = 1;
+
 pub(crate) const LOCAL: u8 = 2;
 
 // Whether both ends are on one processor.
@@ -62,7 +64,13 @@ fn mark_of(actors: &[Actor], links: &[Link], i: usize, delays: &mut [Delay]) -> 
 }
 
 // Marks the given links; the first `all` links are those of the drawing, back links included.
-pub(crate) fn mark_links(actors: &[Actor], links: &mut [Link], given: usize, all: usize, delays: &mut [Delay])
+pub(crate) fn mark_links(
+    actors: &[Actor],
+    links: &mut [Link],
+    given: usize,
+    all: usize,
+    delays: &mut [Delay],
+)
     requires few { ⌜ length (now actors) ≤ 64 ⌝ }
     requires room { ⌜ length (now actors) * length (now actors) ≤ length (now delays) ⌝ }
     requires counts { ⌜ (given ≤ all) × (all ≤ length (now links)) ⌝ }

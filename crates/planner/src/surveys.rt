@@ -22,7 +22,14 @@ use records::Link;
 /// which change nothing), and that no cycle has total delay 0 (refusal 11). Then the first n × n entries of `reach`
 /// tell who is reached by delay-free edges, also after refusal 11, and those of `delays` hold the least delays, row by
 /// sender. Later entries stand.
-pub fn survey(actors: &[Actor], links: &[Link], given: usize, lead: u32, delays: &mut [Delay], reach: &mut [Reach]) -> Result<(), Fault>
+pub fn survey(
+    actors: &[Actor],
+    links: &[Link],
+    given: usize,
+    lead: u32,
+    delays: &mut [Delay],
+    reach: &mut [Reach],
+) -> Result<(), Fault>
     ensures answer { λ r. ⌜ r ≡ surveyed (drawing (now (actors .entry)) (now (links .entry)) given lead (now (delays .entry)) (now (reach .entry))) .answer ⌝ }
     ensures view { λ r. ⌜ told (λ _. []) r ≡ told (λ _. []) (surveyed (drawing (now (actors .entry)) (now (links .entry)) given lead (now (delays .entry)) (now (reach .entry))) .answer) ⌝ }
     ensures delays { λ _. ⌜ now (delays .exit) ≡ surveyed (drawing (now (actors .entry)) (now (links .entry)) given lead (now (delays .entry)) (now (reach .entry))) .delays ⌝ }

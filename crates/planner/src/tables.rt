@@ -59,8 +59,24 @@ fn lay_seen<T: Algebra>(cells: &mut [T], sight: Sight, n: usize, edge: Edge)
     match sight {
         Sight::Directed => lay_edge(cells, n, edge),
         Sight::Loose => {
-            lay_edge(cells, n, Edge { sender: edge.sender, receiver: edge.receiver, delay: 0 });
-            lay_edge(cells, n, Edge { sender: edge.receiver, receiver: edge.sender, delay: 0 });
+            lay_edge(
+                cells,
+                n,
+                Edge {
+                    sender: edge.sender,
+                    receiver: edge.receiver,
+                    delay: 0,
+                },
+            );
+            lay_edge(
+                cells,
+                n,
+                Edge {
+                    sender: edge.receiver,
+                    receiver: edge.sender,
+                    delay: 0,
+                },
+            );
         }
     }
 }
@@ -85,7 +101,14 @@ fn is_skipped(skip: usize, like: Edge, j: usize, edge: Edge) -> bool
 }
 
 // All links but for those that are numbered `skip` or higher and are twins of `like`.
-fn lay_links<T: Algebra>(cells: &mut [T], sight: Sight, n: usize, links: &[Link], skip: usize, like: Edge)
+fn lay_links<T: Algebra>(
+    cells: &mut [T],
+    sight: Sight,
+    n: usize,
+    links: &[Link],
+    skip: usize,
+    like: Edge,
+)
     requires few { ⌜ n ≤ 64 ⌝ }
     requires room { ⌜ n * n ≤ length (now cells) ⌝ }
     requires ends { ⌜ Ends-below n (now links) ⌝ }
@@ -101,7 +124,14 @@ fn lay_links<T: Algebra>(cells: &mut [T], sight: Sight, n: usize, links: &[Link]
 
 // The values of the best paths over the orders and the links, but for the links that are numbered `skip` or higher
 // and are twins of `like`; later cells stand.
-pub(crate) fn fill_without<T: Algebra>(cells: &mut [T], sight: Sight, actors: &[Actor], links: &[Link], skip: usize, like: Edge)
+pub(crate) fn fill_without<T: Algebra>(
+    cells: &mut [T],
+    sight: Sight,
+    actors: &[Actor],
+    links: &[Link],
+    skip: usize,
+    like: Edge,
+)
     requires few { ⌜ length (now actors) ≤ 64 ⌝ }
     requires room { ⌜ length (now actors) * length (now actors) ≤ length (now cells) ⌝ }
     requires ends { ⌜ Ends-below (length (now actors)) (now links) ⌝ }
@@ -122,5 +152,16 @@ pub(crate) fn fill<T: Algebra>(cells: &mut [T], sight: Sight, actors: &[Actor], 
     requires ends { ⌜ Ends-below (length (now actors)) (now links) ⌝ }
     ensures { λ _. ⌜ now (cells .exit) ≡ paths-over sight ops (length (now (actors .entry))) (orders (now (actors .entry)) ++ map link-edge (now (links .entry))) ++ drop (length (now (actors .entry)) * length (now (actors .entry))) (now (cells .entry)) ⌝ }
 {
-    fill_without(cells, sight, actors, links, links.len(), Edge { sender: 0, receiver: 0, delay: 0 });
+    fill_without(
+        cells,
+        sight,
+        actors,
+        links,
+        links.len(),
+        Edge {
+            sender: 0,
+            receiver: 0,
+            delay: 0,
+        },
+    );
 }

@@ -92,13 +92,13 @@ module _ {M : Type 0} (o : Ops M) (n : ℕ) where
         let f : ℕ → M = λ p. through o n k (xs ++ rest) (p / n) (p % n) in
         let g : ℕ → M = λ p. through o n k xs (p / n) (p % n) in
         let same : (p : ℕ) → p < 0 + n * n → f p ≡ g p = λ p h.
-          let some : 0 < n = some-row p (omega arith) in
-          let hu : p / n < n = div-below p n n some (omega arith) in
-          let hv : p % n < n = mod-below p n some in
-          let a = entry-front (p / n) (p % n) hu hv in
-          let b = entry-front (p / n) k hu hk in
-          let c = entry-front k (p % n) hk hv in
-          cc in
+        let some : 0 < n = some-row p (omega arith) in
+        let hu : p / n < n = div-below p n n some (omega arith) in
+        let hv : p % n < n = mod-below p n some in
+        let a = entry-front (p / n) (p % n) hu hv in
+        let b = entry-front (p / n) k hu hk in
+        let c = entry-front k (p % n) hk hv in
+        cc in
         let none : drop (n * n) xs ≡ [] = drop-all (n * n) xs (omega arith) in
         ap (λ ys. ys ++ drop (n * n) (xs ++ rest)) (map-same f g 0 (n * n) same)
         ∙ ap (λ ys. map g (counting 0 (n * n)) ++ ys) (drop-at xs rest (n * n) long)

@@ -16,7 +16,7 @@ returns-in-Break-check-counts c =
     let links = c .args .links .now in
     let p = err-from-errBy (c .from-residual .result) (c .from-residual .ensures .1) in
     let answer : c .from-residual .result ≡ check-tables actors links (c .args .given) (c .args .lead) (c .args .delays) (c .args .reach) =
-      stops (check-counts (length actors) (c .args .given) (length links) (c .args .lead) (c .args .delays) (c .args .reach)) _ _ _ (p .1 ∙ ap Err (p .2)) (c .in-Break-check-counts .ensures tt) in
+    stops (check-counts (length actors) (c .args .given) (length links) (c .args .lead) (c .args .delays) (c .args .reach)) _ _ _ (p .1 ∙ ap Err (p .2)) (c .in-Break-check-counts .ensures tt) in
     record { answer = answer; sound = made-sound _ _ (λ e. sound actors links (c .args .given) (c .args .lead) (c .args .delays) (c .args .reach) (sym answer ∙ e)) }
 
 pub returns-in-Break-check-actors : need.returns-in-Break-check-actors
@@ -26,8 +26,8 @@ returns-in-Break-check-actors c =
     let links = c .args .links .now in
     let p = err-from-errBy (c .from-residual-in-Break-check-actors .result) (c .from-residual-in-Break-check-actors .ensures .1) in
     let answer : c .from-residual-in-Break-check-actors .result ≡ check-tables actors links (c .args .given) (c .args .lead) (c .args .delays) (c .args .reach) =
-      goes-on (check-counts (length actors) (c .args .given) (length links) (c .args .lead) (c .args .delays) (c .args .reach)) _ _ (c .in-Continue-check-counts .ensures tt)
-      (stops (refuse-first bad-actor 9 Table 0 actors) _ _ _ (p .1 ∙ ap Err (p .2)) (c .in-Break-check-actors .ensures tt)) in
+    goes-on (check-counts (length actors) (c .args .given) (length links) (c .args .lead) (c .args .delays) (c .args .reach)) _ _ (c .in-Continue-check-counts .ensures tt)
+    (stops (refuse-first bad-actor 9 Table 0 actors) _ _ _ (p .1 ∙ ap Err (p .2)) (c .in-Break-check-actors .ensures tt)) in
     record { answer = answer; sound = made-sound _ _ (λ e. sound actors links (c .args .given) (c .args .lead) (c .args .delays) (c .args .reach) (sym answer ∙ e)) }
 
 pub returns : need.returns
@@ -36,7 +36,7 @@ returns c =
     let actors = c .args .actors .now in
     let links = c .args .links .now in
     let answer : c .check-links .result ≡ check-tables actors links (c .args .given) (c .args .lead) (c .args .delays) (c .args .reach) =
-      goes-on (check-counts (length actors) (c .args .given) (length links) (c .args .lead) (c .args .delays) (c .args .reach)) _ _ (c .in-Continue-check-counts .ensures tt)
-      (goes-on (refuse-first bad-actor 9 Table 0 actors) _ _ (c .in-Continue-check-actors .ensures tt)
-        (c .check-links .ensures ∙ ap (λ k. refuse-first (bad-link (length actors)) 10 Table 0 (take k links)) (sub-zero (c .args .given)))) in
+    goes-on (check-counts (length actors) (c .args .given) (length links) (c .args .lead) (c .args .delays) (c .args .reach)) _ _ (c .in-Continue-check-counts .ensures tt)
+    (goes-on (refuse-first bad-actor 9 Table 0 actors) _ _ (c .in-Continue-check-actors .ensures tt)
+    (c .check-links .ensures ∙ ap (λ k. refuse-first (bad-link (length actors)) 10 Table 0 (take k links)) (sub-zero (c .args .given)))) in
     record { answer = answer; sound = made-sound _ _ (λ e. sound actors links (c .args .given) (c .args .lead) (c .args .delays) (c .args .reach) (sym answer ∙ e)) }

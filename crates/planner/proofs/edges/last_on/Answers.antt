@@ -11,9 +11,9 @@ returns-then-actors-u c =
     let e : c .loop-u .u ≡ c .loop-u .u - 1 + 1 = omega arith in
     record {
       value =
-        sym (last-on-more (c .args .actors .now) (c .args .processor) (c .loop-u .u) (c .loop-u .u - 1) e
-        ∙ cond-true _ _ _ (eq-eqb _ _ (c .if-actors-u .taken)))
-        ∙ c .loop-u .inv;
+          sym (last-on-more (c .args .actors .now) (c .args .processor) (c .loop-u .u) (c .loop-u .u - 1) e
+          ∙ cond-true _ _ _ (eq-eqb _ _ (c .if-actors-u .taken)))
+          ∙ c .loop-u .inv;
       within = omega arith;
     }
 

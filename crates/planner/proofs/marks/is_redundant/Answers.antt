@@ -23,7 +23,7 @@ returns c =
     let long = length-paths-over delay-ops n Directed (orders actors ++ without (c .args .i) edge 0 es) in
     record {
       value =
-        redundant-read actors es (c .args .i) edge (c .fill-without .last .cells) rest (c .place-at .result) (c .index-delays-at .result) (c .fill-without .ensures) (c .place-at .ensures .value) (c .place-at .ensures .within)
-        ∙ ap (redundant actors es (c .args .i)) (c .edge-of-edge .ensures);
+          redundant-read actors es (c .args .i) edge (c .fill-without .last .cells) rest (c .place-at .result) (c .index-delays-at .result) (c .fill-without .ensures) (c .place-at .ensures .value) (c .place-at .ensures .within)
+          ∙ ap (redundant actors es (c .args .i)) (c .edge-of-edge .ensures);
       rest = ap (drop (n * n)) (c .fill-without .ensures) ∙ drop-at table rest (n * n) long;
     }

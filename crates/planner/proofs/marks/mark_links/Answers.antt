@@ -31,11 +31,12 @@ index-links-i c = omega (arith, c .loop-i .inv .2, c .pre .counts .0, c .pre .co
 pub loop-i-again : need.loop-i-again
 loop-i-again c =
     let xs = c .args .links .now in
-    let es = map link-edge (take (c .args .all) xs) in
-    (marked-more (c .args .actors .now) es xs (c .loop-i .links) (c .loop-i .i) (c .loop-i .inv .0) (c .args .all) (c .mark-of-mark .result) refl
-      (omega (arith, c .pre .counts .0)) (omega (arith, c .pre .counts .0, c .pre .counts .1)) (c .mark-of-mark .ensures .value),
-    c .mark-of-mark .ensures .rest ∙ c .loop-i .inv .1,
-    length-set (c .loop-i .links) (c .loop-i .i) _ ∙ c .loop-i .inv .2)
+    let es = map link-edge (take (c .args .all) xs) in (
+      marked-more (c .args .actors .now) es xs (c .loop-i .links) (c .loop-i .i) (c .loop-i .inv .0) (c .args .all) (c .mark-of-mark .result) refl
+          (omega (arith, c .pre .counts .0)) (omega (arith, c .pre .counts .0, c .pre .counts .1)) (c .mark-of-mark .ensures .value),
+      c .mark-of-mark .ensures .rest ∙ c .loop-i .inv .1,
+      length-set (c .loop-i .links) (c .loop-i .i) _ ∙ c .loop-i .inv .2,
+    )
 
 pub keeps-links : need.keeps-links
 keeps-links c = c .loop-i .inv .2

@@ -17,4 +17,4 @@ returns g c =
     let n = length actors in
     c .fill-without .ensures
     ∙ ap (λ es. paths-over (c .args .sight) (g .T·Algebra .ops) n (orders actors ++ es) ++ drop (n * n) (c .args .cells .now))
-      (without-none (length links) (edge 0 0 0) 0 (map link-edge links) (omega (arith, length-map links link-edge)))
+    (without-none (length links) (edge 0 0 0) 0 (map link-edge links) (omega (arith, length-map links link-edge)))

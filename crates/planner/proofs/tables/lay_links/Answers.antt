@@ -6,12 +6,13 @@ use Rattle.planner.proofs.tables.lay_links.Needs.{then-not-is-skipped, else-no
 pub loop-j-again : need.loop-j-again
 loop-j-again g c =
     elim (c .if-not-is-skipped .came) [
-      then-not-is-skipped w ↦
-        laid-link-more (c .args .sight) (g .T·Algebra .ops) (c .args .n) (c .args .skip) (c .args .like) (c .args .links .now) (c .loop-j .j) (c .loop-j-test .taken) (c .edge-of-edge .result) (c .edge-of-edge .ensures) (c .loop-j .cells) (c .if-not-is-skipped .cells) (sym (c .is-skipped .ensures) ∙ w .if-not-is-skipped .taken) (w .cells-is ∙ w .lay-seen .ensures)
-        ∙ c .loop-j .inv
-    | else-not-is-skipped w ↦
-        laid-link-none (c .args .sight) (g .T·Algebra .ops) (c .args .n) (c .args .skip) (c .args .like) (c .args .links .now) (c .loop-j .j) (c .loop-j-test .taken) (c .edge-of-edge .result) (c .edge-of-edge .ensures) (c .loop-j .cells) (c .if-not-is-skipped .cells) (sym (c .is-skipped .ensures) ∙ w .if-not-is-skipped .left) (w .cells-is)
-        ∙ c .loop-j .inv ]
+      | then-not-is-skipped w ↦
+          laid-link-more (c .args .sight) (g .T·Algebra .ops) (c .args .n) (c .args .skip) (c .args .like) (c .args .links .now) (c .loop-j .j) (c .loop-j-test .taken) (c .edge-of-edge .result) (c .edge-of-edge .ensures) (c .loop-j .cells) (c .if-not-is-skipped .cells) (sym (c .is-skipped .ensures) ∙ w .if-not-is-skipped .taken) (w .cells-is ∙ w .lay-seen .ensures)
+          ∙ c .loop-j .inv
+      | else-not-is-skipped w ↦
+          laid-link-none (c .args .sight) (g .T·Algebra .ops) (c .args .n) (c .args .skip) (c .args .like) (c .args .links .now) (c .loop-j .j) (c .loop-j-test .taken) (c .edge-of-edge .result) (c .edge-of-edge .ensures) (c .loop-j .cells) (c .if-not-is-skipped .cells) (sym (c .is-skipped .ensures) ∙ w .if-not-is-skipped .left) (w .cells-is)
+          ∙ c .loop-j .inv
+    ]
 
 pub returns : need.returns
 returns g c =

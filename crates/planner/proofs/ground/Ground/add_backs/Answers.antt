@@ -30,17 +30,18 @@ loop-p-again c =
     let later = backs-among g lead (counting (p + 1) (n - (p + 1))) in
     let split = ap (backs-among g lead) (counting-more p n (c .loop-p-test .taken)) in
     elim (c .if-wants-backs .came) [
-      then-wants-backs w ↦
-        let call = w .add-part-next in
-        let here = split ∙ ap (λ ls. ls ++ later) (cond-true _ _ _ (sym (c .wants-backs .ensures) ∙ w .if-wants-backs .taken)) in
-        let more = doing-more n limit links (c .args .at) whole (c .loop-p .links) (c .loop-p .next) left (c .loop-p .inv)
+      | then-wants-backs w ↦
+          let call = w .add-part-next in
+          let here = split ∙ ap (λ ls. ls ++ later) (cond-true _ _ _ (sym (c .wants-backs .ensures) ∙ w .if-wants-backs .taken)) in
+          let more = doing-more n limit links (c .args .at) whole (c .loop-p .links) (c .loop-p .next) left (c .loop-p .inv)
           (part-backs g lead p) later (call .last .links) (call .result) here (call .ensures .table) (call .ensures .next) (call .ensures .within) (call .ensures .ends) in
-        doing-same n limit links (c .args .at) whole (call .last .links) (call .result) later more
-        (c .if-wants-backs .links) (c .if-wants-backs .next) later (w .links-is) (w .next-is) refl
-    | else-wants-backs w ↦
-        let here = split ∙ ap (λ ls. ls ++ later) (cond-false _ _ _ (sym (c .wants-backs .ensures) ∙ w .if-wants-backs .left)) in
-        doing-same n limit links (c .args .at) whole (c .loop-p .links) (c .loop-p .next) left (c .loop-p .inv)
-        (c .if-wants-backs .links) (c .if-wants-backs .next) later (w .links-is) (w .next-is) (sym here) ]
+          doing-same n limit links (c .args .at) whole (call .last .links) (call .result) later more
+          (c .if-wants-backs .links) (c .if-wants-backs .next) later (w .links-is) (w .next-is) refl
+      | else-wants-backs w ↦
+          let here = split ∙ ap (λ ls. ls ++ later) (cond-false _ _ _ (sym (c .wants-backs .ensures) ∙ w .if-wants-backs .left)) in
+          doing-same n limit links (c .args .at) whole (c .loop-p .links) (c .loop-p .next) left (c .loop-p .inv)
+          (c .if-wants-backs .links) (c .if-wants-backs .next) later (w .links-is) (w .next-is) (sym here)
+    ]
 
 pub returns : need.returns
 returns c =

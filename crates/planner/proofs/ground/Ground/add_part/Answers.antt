@@ -29,9 +29,9 @@ returns c =
     let b = c .chain-left in
     let two = doing-more n limit links at whole (a .last .links) (a .result) (exits ++ last) one exits last (b .last .links) (b .result) refl (b .ensures .table) (b .ensures .next) (b .ensures .within) (b .ensures .ends) in
     let link =
-      c .back-link .ensures .value ∙ ap (λ u. back-link (stand g u) (stand g (c .first-group-to .result)) lead) (c .last-group-from .ensures .value)
-      ∙ ap (λ u. back-link (stand g (last-of p (groups-of g Exit p))) (stand g u) lead) (c .first-group-to .ensures .value) in
+    c .back-link .ensures .value ∙ ap (λ u. back-link (stand g u) (stand g (c .first-group-to .result)) lead) (c .last-group-from .ensures .value)
+    ∙ ap (λ u. back-link (stand g (last-of p (groups-of g Exit p))) (stand g u) lead) (c .first-group-to .ensures .value) in
     let d = c .append in
     let three = doing-more n limit links at whole (b .last .links) (b .result) last two last [] (d .last .links) (d .result) refl
-      (d .ensures .table ∙ ap (put-one limit (b .last .links) (b .result)) link) (d .ensures .next) (d .ensures .within) (d .ensures .ends) in
+    (d .ensures .table ∙ ap (put-one limit (b .last .links) (b .result)) link) (d .ensures .next) (d .ensures .within) (d .ensures .ends) in
     record { table = three .table; next = three .end; within = three .within; ends = three .ends }

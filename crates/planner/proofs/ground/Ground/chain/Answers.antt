@@ -25,21 +25,24 @@ loop-u-again c =
     let left = chain g (c .loop-u .earlier) (heads-left g end p n u) in
     let later = heads-left g end p n (u + 1) in
     elim (c .if-heads .came) [
-      then-heads w ↦
-        let call = w .link-from-next in
-        let here = ap (chain g (c .loop-u .earlier)) (heads-here g end p n u (c .loop-u-test .taken) (sym (c .heads .ensures) ∙ w .if-heads .taken)) in
-        let more = doing-more n limit (c .args .links .now) (c .args .at) whole (c .loop-u .links) (c .loop-u .next) left (c .loop-u .inv .0)
+      | then-heads w ↦
+          let call = w .link-from-next in
+          let here = ap (chain g (c .loop-u .earlier)) (heads-here g end p n u (c .loop-u-test .taken) (sym (c .heads .ensures) ∙ w .if-heads .taken)) in
+          let more = doing-more n limit (c .args .links .now) (c .args .at) whole (c .loop-u .links) (c .loop-u .next) left (c .loop-u .inv .0)
           (link-from g (c .loop-u .earlier) u) (chain g (Some u) later) (call .last .links) (call .result) here
-          (call .ensures .table) (call .ensures .next) (call .ensures .within) (call .ensures .ends) in
-        (doing-same n limit (c .args .links .now) (c .args .at) whole (call .last .links) (call .result) (chain g (Some u) later) more
-          (c .if-heads .links) (c .if-heads .next) (chain g (c .if-heads .earlier) later) (w .links-is) (w .next-is) (ap (λ e. chain g e later) (w .earlier-is)),
-        subst (λ e. found e (λ w. w < n)) (sym (w .earlier-is)) (c .loop-u-test .taken))
-    | else-heads w ↦
-        let on = heads-not-here g end p n u (c .loop-u-test .taken) (sym (c .heads .ensures) ∙ w .if-heads .left) in
-        (doing-same n limit (c .args .links .now) (c .args .at) whole (c .loop-u .links) (c .loop-u .next) left (c .loop-u .inv .0)
-          (c .if-heads .links) (c .if-heads .next) (chain g (c .if-heads .earlier) later) (w .links-is) (w .next-is)
-          (ap (λ e. chain g e later) (w .earlier-is) ∙ sym (ap (chain g (c .loop-u .earlier)) on)),
-        subst (λ e. found e (λ w. w < n)) (sym (w .earlier-is)) (c .loop-u .inv .1)) ]
+          (call .ensures .table) (call .ensures .next) (call .ensures .within) (call .ensures .ends) in (
+            doing-same n limit (c .args .links .now) (c .args .at) whole (call .last .links) (call .result) (chain g (Some u) later) more
+                (c .if-heads .links) (c .if-heads .next) (chain g (c .if-heads .earlier) later) (w .links-is) (w .next-is) (ap (λ e. chain g e later) (w .earlier-is)),
+            subst (λ e. found e (λ w. w < n)) (sym (w .earlier-is)) (c .loop-u-test .taken),
+          )
+      | else-heads w ↦
+          let on = heads-not-here g end p n u (c .loop-u-test .taken) (sym (c .heads .ensures) ∙ w .if-heads .left) in (
+            doing-same n limit (c .args .links .now) (c .args .at) whole (c .loop-u .links) (c .loop-u .next) left (c .loop-u .inv .0)
+                (c .if-heads .links) (c .if-heads .next) (chain g (c .if-heads .earlier) later) (w .links-is) (w .next-is)
+                (ap (λ e. chain g e later) (w .earlier-is) ∙ sym (ap (chain g (c .loop-u .earlier)) on)),
+            subst (λ e. found e (λ w. w < n)) (sym (w .earlier-is)) (c .loop-u .inv .1),
+          )
+    ]
 
 pub loop-u-holds : need.loop-u-holds
 loop-u-holds c =

@@ -9,8 +9,8 @@ use Rattle.planner.proofs.ground.Ground.first_group.Needs as need
 pub returns-then-heads : need.returns-then-heads
 returns-then-heads c = record {
   value =
-    sym (ap (first-of (c .args .p)) (heads-here (seen (c .args .self .now)) (c .args .end) (c .args .p) (length (c .args .self .now .actors .now)) (c .loop-u .u) (c .loop-u-test .taken) (sym (c .heads .ensures) ∙ c .if-heads .taken)))
-    ∙ c .loop-u .inv;
+      sym (ap (first-of (c .args .p)) (heads-here (seen (c .args .self .now)) (c .args .end) (c .args .p) (length (c .args .self .now .actors .now)) (c .loop-u .u) (c .loop-u-test .taken) (sym (c .heads .ensures) ∙ c .if-heads .taken)))
+      ∙ c .loop-u .inv;
   within = omega arith;
 }
 

@@ -16,13 +16,16 @@ loop-u-again c =
     let p = c .args .p in
     let u = c .loop-u .u in
     elim (c .if-heads .came) [
-      then-heads w ↦ (
+      | then-heads w ↦ (
         ap (λ x. last-of x (heads-left g end p n (u + 1))) (w .last-is)
-        ∙ sym (ap (last-of (c .loop-u .last)) (heads-here g end p n u (c .loop-u-test .taken) (sym (c .heads .ensures) ∙ w .if-heads .taken)))
-        ∙ c .loop-u .inv .0,
-        omega (arith, w .last-is))
-    | else-heads w ↦ (
+            ∙ sym (ap (last-of (c .loop-u .last)) (heads-here g end p n u (c .loop-u-test .taken) (sym (c .heads .ensures) ∙ w .if-heads .taken)))
+            ∙ c .loop-u .inv .0,
+        omega (arith, w .last-is),
+      )
+      | else-heads w ↦ (
         ap (λ x. last-of x (heads-left g end p n (u + 1))) (w .last-is)
-        ∙ sym (ap (last-of (c .loop-u .last)) (heads-not-here g end p n u (c .loop-u-test .taken) (sym (c .heads .ensures) ∙ w .if-heads .left)))
-        ∙ c .loop-u .inv .0,
-        omega (arith, w .last-is, c .loop-u .inv .1)) ]
+            ∙ sym (ap (last-of (c .loop-u .last)) (heads-not-here g end p n u (c .loop-u-test .taken) (sym (c .heads .ensures) ∙ w .if-heads .left)))
+            ∙ c .loop-u .inv .0,
+        omega (arith, w .last-is, c .loop-u .inv .1),
+      )
+    ]

@@ -11,12 +11,15 @@ loop-w-again c =
     let actors = c .args .self .now .actors .now in
     let delays = c .args .self .now .delays .now in
     elim (c .if-stands-better .came) [
-      then-stands-better w ↦ (
+      | then-stands-better w ↦ (
         w .best-is ∙ stand-takes actors (length actors) delays (c .args .u) (c .loop-w .w) (c .loop-w .best) (c .loop-w .inv .0) (sym (c .stands-better .ensures) ∙ w .if-stands-better .taken),
-        omega (arith, w .best-is))
-    | else-stands-better w ↦ (
+        omega (arith, w .best-is),
+      )
+      | else-stands-better w ↦ (
         w .best-is ∙ stand-keeps actors (length actors) delays (c .args .u) (c .loop-w .w) (c .loop-w .best) (c .loop-w .inv .0) (sym (c .stands-better .ensures) ∙ w .if-stands-better .left),
-        omega (arith, w .best-is, c .loop-w .inv .1)) ]
+        omega (arith, w .best-is, c .loop-w .inv .1),
+      )
+    ]
 
 pub returns : need.returns
 unfolding stand-in
