@@ -13,4 +13,3 @@ mod tables;
 
 pub use plans::Slip;
 pub use plans::plan;
-pub use surveys::survey;

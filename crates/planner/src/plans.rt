@@ -172,9 +172,10 @@ fn plan_live(
 }
 
 /// Plans a drawing: the whole actor table, the first `given` links of the link table, whose marks and sizes are
-/// ignored, and the lead. Refuses as `survey` does, and then leaves what `survey` leaves. On success each given link has
-/// its mark and size, the back links stand after the given ones, the first n × n entries of `delays` hold the least
-/// delays with back links, row by sender, and those of `reach` tell who shares a part. All else stands.
+/// ignored, and the lead. Refusals 5 to 10 change nothing; after refusal 11 the first n × n entries of `reach` tell who is
+/// reached by delay-free edges. On success each given link has its mark and size, the back links stand after the given
+/// ones, the first n × n entries of `delays` hold the least delays with back links, row by sender, and those of `reach`
+/// tell who shares a part. All else stands.
 pub fn plan(
     actors: &[Actor],
     links: &mut [Link],

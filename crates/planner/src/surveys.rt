@@ -18,11 +18,11 @@ use records::Actor;
 use records::Fault;
 use records::Link;
 
-/// Checks a drawing: its tables, the first `given` of its links, its lead and the two workspaces (refusals 5 to 10,
-/// which change nothing), and that no cycle has total delay 0 (refusal 11). Then the first n × n entries of `reach`
-/// tell who is reached by delay-free edges, also after refusal 11, and those of `delays` hold the least delays, row by
-/// sender. Later entries stand.
-pub fn survey(
+// Checks a drawing: its tables, the first `given` of its links, its lead and the two workspaces (refusals 5 to 10,
+// which change nothing), and that no cycle has total delay 0 (refusal 11). Then the first n × n entries of `reach`
+// tell who is reached by delay-free edges, also after refusal 11, and those of `delays` hold the least delays, row by
+// sender. Later entries stand.
+pub(crate) fn survey(
     actors: &[Actor],
     links: &[Link],
     given: usize,
