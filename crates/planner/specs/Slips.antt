@@ -10,6 +10,9 @@ use Rattle.planner.specs.declared.plans.Slip.{Slip}
 abbrev pub slip-of : Totals → Slip
 slip-of t = record { actors = t .actors; given = t .given; back = t .back; lead = t .lead; before = t .before; after = t .after }
 
+abbrev pub totals-of : Slip → Totals
+totals-of s = record { actors = s .actors; given = s .given; back = s .back; lead = s .lead; before = s .before; after = s .after }
+
 abbrev pub slip-answer : Result Totals Fault → Result Slip Fault
 slip-answer (Ok t) = Ok (slip-of t)
 slip-answer (Err f) = Err f

@@ -3,6 +3,7 @@ ghost use mathlib.Core.Path.{_≡_};
 ghost use mathlib.Core.List.{_++_, map};
 ghost use Prim.Native.Nat.{_+_, _*_, _<_, _≤_};
 ghost use lib.ListN.{length, take, drop};
+ghost use Rattle.std.specs.Vec.{made};
 ghost use Rattle.records.specs.Faults.{told};
 ghost use Rattle.records.specs.Tables.{link-edge};
 ghost use Rattle.paths.specs.Models.{reach-ops};
@@ -156,6 +157,7 @@ fn plan_live(
     ensures slip { λ r. ⌜ r ≡ slip-of (plan-totals (drawing (now (actors .entry)) (now (links .entry)) given lead (now (delays .entry)) (now (reach .entry)))) ⌝ }
     ensures links { λ _. ⌜ now (links .exit) ≡ accepted (drawing (now (actors .entry)) (now (links .entry)) given lead (now (delays .entry)) (now (reach .entry))) .links ⌝ }
     ensures delays { λ _. ⌜ now (delays .exit) ≡ accepted (drawing (now (actors .entry)) (now (links .entry)) given lead (now (delays .entry)) (now (reach .entry))) .delays ⌝ }
+    ensures room { λ r. ⌜ r .given + r .back ≤ length (now (links .entry)) ⌝ }
     ensures reach { λ _. ⌜ now (reach .exit) ≡ accepted (drawing (now (actors .entry)) (now (links .entry)) given lead (now (delays .entry)) (now (reach .entry))) .reach ⌝ }
 {
     let n = actors.len();
@@ -188,6 +190,7 @@ pub fn plan(
     ensures view { λ r. ⌜ told slip-values r ≡ told slip-values (slip-answer (planned (drawing (now (actors .entry)) (now (links .entry)) given lead (now (delays .entry)) (now (reach .entry))) .answer)) ⌝ }
     ensures links { λ _. ⌜ now (links .exit) ≡ planned (drawing (now (actors .entry)) (now (links .entry)) given lead (now (delays .entry)) (now (reach .entry))) .links ⌝ }
     ensures delays { λ _. ⌜ now (delays .exit) ≡ planned (drawing (now (actors .entry)) (now (links .entry)) given lead (now (delays .entry)) (now (reach .entry))) .delays ⌝ }
+    ensures room { λ r. ⌜ made r (λ s. s .given + s .back ≤ length (now (links .entry))) ⌝ }
     ensures reach { λ _. ⌜ now (reach .exit) ≡ planned (drawing (now (actors .entry)) (now (links .entry)) given lead (now (delays .entry)) (now (reach .entry))) .reach ⌝ }
 {
     survey(actors, links, given, lead, delays, reach)?;

@@ -1,7 +1,8 @@
 use mathlib.Core.Path.{_≡_, refl, sym, ap, subst, _∙_}
-use Prim.Native.Nat.{_*_}
+use Prim.Native.Nat.{_+_, _*_, _≤_}
 use native.Mathlib.Omega.{arith}
 use lib.ListN.{length, take}
+use Rattle.std.specs.Vec.{made}
 use Rattle.std.specs.declared.result.Result.the-variants.{Ok, Err}
 use Rattle.std.proofs.shelf.Lists.{take-at}
 use Rattle.std.proofs.shelf.Results.{err-from-errBy}
@@ -26,6 +27,7 @@ returns-in-Break-survey c =
       view = ap (told slip-values) answer;
       links = sym (same .links);
       delays = c .survey .ensures .delays ∙ sym (same .delays);
+      room = subst (λ r. made r (λ s. s .given + s .back ≤ length (c .args .links .now))) (sym (p .1)) tt;
       reach = c .survey .ensures .reach ∙ sym (same .reach);
     }
 
@@ -66,5 +68,6 @@ returns c =
       view = ap (told slip-values) answer;
       links = call .links ∙ ap (λ ls. over ls (d .links)) (links-whatever d (c .survey .last .delays) (c .survey .last .reach)) ∙ sym (ap (λ o. o .links) (on .1));
       delays = call .delays ∙ ap (over (plan-delays d)) delays ∙ over-over (plan-delays d) (base-delays d) (d .delays) same-delays ∙ sym (ap (λ o. o .delays) (on .1));
+      room = call .room;
       reach = call .reach ∙ ap (over (ground d .joined)) reach ∙ over-over (ground d .joined) (free-paths d) (d .reach) same-reach ∙ sym (ap (λ o. o .reach) (on .1));
     }

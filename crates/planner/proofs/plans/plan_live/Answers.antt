@@ -30,5 +30,6 @@ returns c =
       slip = ap slip-of (totals-planned d room (found .result .0) (found .last .links) end is (found .result .1) (made .result) before (made .ensures .cost));
       links = links-planned d room (found .result .0) (found .last .links) end is (made .last .links) (made .ensures .links);
       delays = delays-planned d room (found .result .0) (found .last .links) end is (made .last .delays) (made .ensures .delays);
+      room = omega (arith, found .ensures .end, found .ensures .within, c .pre .sound .links-room);
       reach = found .ensures .reach;
     }
