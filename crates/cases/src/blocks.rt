@@ -41,7 +41,8 @@ impl<'a> Blocks<'a> {
     fn number(&mut self) -> usize {
         let mut n = 0usize;
         for b in self.word() {
-            n = n.saturating_mul(10).saturating_add(usize::from(b.saturating_sub(b'0')));
+            n = n.saturating_mul(10)
+                .saturating_add(usize::from(b.saturating_sub(b'0')));
         }
         n
     }
@@ -72,6 +73,15 @@ impl<'a> Blocks<'a> {
         let text = self.part(text_count);
         let expected = self.part(expected_count);
         let _end = self.part(1);
-        Some(Case { short, actors, links, delays, reach, out, text, expected })
+        Some(Case {
+            short,
+            actors,
+            links,
+            delays,
+            reach,
+            out,
+            text,
+            expected,
+        })
     }
 }

@@ -13,10 +13,19 @@ use trial::Memory;
 use trial::agrees;
 
 fn main(rt: LibcRuntime) -> io::Result<()> {
-    let data = fs::read(&rt, "data/cases.txt")?;
+    let data = fs::read(&rt, "cases.txt")?;
     let mut memory = Memory {
-        actors: [Actor { processor: 0, estimate: 0 }; 128],
-        links: [Link { sender: 0, receiver: 0, delay: 0, mark: 0, size: 0 }; 512],
+        actors: [Actor {
+            processor: 0,
+            estimate: 0,
+        }; 128],
+        links: [Link {
+            sender: 0,
+            receiver: 0,
+            delay: 0,
+            mark: 0,
+            size: 0,
+        }; 512],
         delays: [Delay { value: 0 }; 8192],
         reach: [Reach { yes: false }; 8192],
         out: [0; 32768],

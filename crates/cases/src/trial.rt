@@ -43,9 +43,18 @@ pub fn agrees(case: &Case, memory: &mut Memory) -> bool {
     let d = case.delays.min(8192);
     let r = case.reach.min(8192);
     let o = case.out.min(32768);
-    let answer = list(case.text, &mut memory.actors[0..a], &mut memory.links[0..l], &mut memory.delays[0..d], &mut memory.reach[0..r], &mut memory.out[0..o]);
+    let answer = list(
+        case.text,
+        &mut memory.actors[0..a],
+        &mut memory.links[0..l],
+        &mut memory.delays[0..d],
+        &mut memory.reach[0..r],
+        &mut memory.out[0..o],
+    );
     match answer {
-        Ok(count) => !case.short && count == case.expected.len() && holds(&memory.out, case.expected),
+        Ok(count) => !case.short
+            && count == case.expected.len()
+            && holds(&memory.out, case.expected),
         Err(fault) => case.short && fault.number == 12 && holds(&memory.out, case.expected),
     }
 }

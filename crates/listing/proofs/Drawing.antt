@@ -87,9 +87,9 @@ module _ (actors : List Actor) (links : List Link) (delays : List Delay) (reach 
           subst (λ y. Drawn r (after-reading y actors links delays reach) actors′ links″ delays″ reach″) (sym is)
           (record {
             bytes =
-              ap (λ y. answer-bytes y links″) (answer ∙ ap (λ g. slip-answer (planned g .answer)) planned-from)
-              ∙ ap (answer-bytes _) (ls ∙ ap (λ g. planned g .links) planned-from)
-              ∙ same-bytes _ _;
+                ap (λ y. answer-bytes y links″) (answer ∙ ap (λ g. slip-answer (planned g .answer)) planned-from)
+                ∙ ap (answer-bytes _) (ls ∙ ap (λ g. planned g .links) planned-from)
+                ∙ same-bytes _ _;
             room = subst (λ k. made r (λ s. s .given + s .back ≤ k)) (sym long) room;
             actors-hold = a ∙ ap (λ y. actors-after y actors) is;
             links-hold = ls ∙ ap (λ g. planned g .links) planned-from;

@@ -20,18 +20,38 @@ use records::Fault;
 use records::Link;
 
 // Reads a text into the tables and plans it.
-fn draw(text: &[u8], actors: &mut [Actor], links: &mut [Link], delays: &mut [Delay], reach: &mut [Reach]) -> Result<Slip, Fault>
+fn draw(
+    text: &[u8],
+    actors: &mut [Actor],
+    links: &mut [Link],
+    delays: &mut [Delay],
+    reach: &mut [Reach],
+) -> Result<Slip, Fault>
     ensures drawn { λ r. ⌜ Drawn r (listed (now (text .entry)) (now (actors .entry)) (now (links .entry)) (now (delays .entry)) (now (reach .entry))) (now (actors .exit)) (now (links .exit)) (now (delays .exit)) (now (reach .exit)) ⌝ }
 {
     let counts = read(text, actors, links)?;
     let n = counts.actors;
-    plan(&actors[0..n], links, counts.links, counts.lead, delays, reach)
+    plan(
+        &actors[0..n],
+        links,
+        counts.links,
+        counts.lead,
+        delays,
+        reach,
+    )
 }
 
 /// Reads a text, plans it, and writes the listing, or the line of the refusal, at the start of the output; answers the
 /// count of bytes, and later bytes stand. Tables and workspaces are then as reading and planning leave them. Where the
 /// output is too short, it refuses with 12 and does not touch the output.
-pub fn list(text: &[u8], actors: &mut [Actor], links: &mut [Link], delays: &mut [Delay], reach: &mut [Reach], out: &mut [u8]) -> Result<usize, Fault>
+pub fn list(
+    text: &[u8],
+    actors: &mut [Actor],
+    links: &mut [Link],
+    delays: &mut [Delay],
+    reach: &mut [Reach],
+    out: &mut [u8],
+) -> Result<usize, Fault>
     ensures answer { λ r. ⌜ r ≡ fit-answer (listed (now (text .entry)) (now (actors .entry)) (now (links .entry)) (now (delays .entry)) (now (reach .entry)) .bytes) (now (out .entry)) ⌝ }
     ensures view { λ r. ⌜ told (λ n. n ∷ []) r ≡ told (λ n. n ∷ []) (fit-answer (listed (now (text .entry)) (now (actors .entry)) (now (links .entry)) (now (delays .entry)) (now (reach .entry)) .bytes) (now (out .entry))) ⌝ }
     ensures output { λ _. ⌜ now (out .exit) ≡ fit-output (listed (now (text .entry)) (now (actors .entry)) (now (links .entry)) (now (delays .entry)) (now (reach .entry)) .bytes) (now (out .entry)) ⌝ }

@@ -31,13 +31,29 @@ fn read_text(input: &mut impl Read, text: &mut [u8]) -> io::Result<usize>
 
 fn main(rt: LibcRuntime) -> io::Result<()> {
     let mut text = [0u8; TEXT];
-    let mut actors = [Actor { processor: 0, estimate: 0 }; 64];
-    let mut links = [Link { sender: 0, receiver: 0, delay: 0, mark: 0, size: 0 }; 271];
+    let mut actors = [Actor {
+        processor: 0,
+        estimate: 0,
+    }; 64];
+    let mut links = [Link {
+        sender: 0,
+        receiver: 0,
+        delay: 0,
+        mark: 0,
+        size: 0,
+    }; 271];
     let mut delays = [Delay { value: 0 }; 4096];
     let mut reach = [Reach { yes: false }; 4096];
     let mut out = [0u8; 16384];
     let count = read_text(&mut rt.stdin(), &mut text)?;
-    match list(&text[0..count], &mut actors, &mut links, &mut delays, &mut reach, &mut out) {
+    match list(
+        &text[0..count],
+        &mut actors,
+        &mut links,
+        &mut delays,
+        &mut reach,
+        &mut out,
+    ) {
         Ok(bytes) => rt.stdout().write_all(&out[0..bytes]),
         Err(_) => rt.stdout().write_all(b"refused 12 listing 0\n"),
     }

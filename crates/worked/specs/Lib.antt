@@ -1,1 +1,1 @@
-pub mod Dummy
+pub mod Examples

@@ -16,7 +16,7 @@ returns-in-Break-counts c =
     let p = err-from-errBy (c .from-residual .result) (c .from-residual .ensures .1) in
     record {
       drawn = drawn-refused (c .args .actors .now) (c .args .links .now) (c .args .delays .now) (c .args .reach .now) R f (c .from-residual .result) (c .read .last .actors) (c .read .last .links)
-        (read-refused R f (c .in-Break-counts .ensures tt .answer)) (p .1 ∙ ap Err (p .2)) (c .read .ensures .actors) (c .read .ensures .links);
+          (read-refused R f (c .in-Break-counts .ensures tt .answer)) (p .1 ∙ ap Err (p .2)) (c .read .ensures .actors) (c .read .ensures .links);
     }
 
 pub part-plan-end : need.part-plan-end
@@ -32,6 +32,6 @@ returns c =
     let d = read-passed R (c .in-Continue-counts .counts) (c .in-Continue-counts .ensures tt .answer) in
     record {
       drawn = drawn-planned (c .args .actors .now) (c .args .links .now) (c .args .delays .now) (c .args .reach .now) R (d .0) (d .1) (c .in-Continue-counts .counts) (d .2) (c .read .last .actors) (c .read .ensures .actors)
-        (c .read .last .links) (c .read .ensures .links) (c .plan .result) (c .plan .last .links) (c .plan .last .delays) (c .plan .last .reach)
-        (c .plan .kept .links) (c .plan .ensures .answer) (c .plan .ensures .room) (c .plan .ensures .links) (c .plan .ensures .delays) (c .plan .ensures .reach);
+          (c .read .last .links) (c .read .ensures .links) (c .plan .result) (c .plan .last .links) (c .plan .last .delays) (c .plan .last .reach)
+          (c .plan .kept .links) (c .plan .ensures .answer) (c .plan .ensures .room) (c .plan .ensures .links) (c .plan .ensures .delays) (c .plan .ensures .reach);
     }
