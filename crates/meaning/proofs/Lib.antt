@@ -1,0 +1,6 @@
+pub mod Laid
+pub mod Delays
+pub mod Free
+pub mod Reaching
+pub mod Joining
+pub mod Turns

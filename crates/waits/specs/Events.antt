@@ -1,0 +1,62 @@
+-- Self-timed execution: actors start and finish, and an edge lets starts of its receiver wait for finishes of its sender.
+use mathlib.Core.Path.{_≡_}
+use mathlib.Core.List.{List, [], _∷_, _++_}
+use mathlib.Core.Bool.{Bool, true, false, cond}
+use mathlib.Core.Logic.{_⊎_}
+use Prim.Native.Nat.{ℕ, _+_, _-_, _≤_, _<_}
+use lib.Dec.{eqb}
+use Rattle.records.specs.declared.tables.Edge.{Edge}
+use Rattle.records.specs.Tables.{edge}
+
+pub data Event : Type 0 where
+  start : ℕ → Event
+  finish : ℕ → Event
+
+abbrev pub starts : ℕ → List Event → ℕ
+starts a [] = 0
+starts a (start b ∷ xs) = cond (eqb a b) 1 0 + starts a xs
+starts a (finish b ∷ xs) = starts a xs
+
+abbrev pub finishes : ℕ → List Event → ℕ
+finishes a [] = 0
+finishes a (start b ∷ xs) = finishes a xs
+finishes a (finish b ∷ xs) = cond (eqb a b) 1 0 + finishes a xs
+
+-- the events of actor a alternate; the next is a finish if a is running, else a start
+abbrev pub Alternates : ℕ → Bool → List Event → Type 0
+Alternates a running [] = Unit {0}
+Alternates a running (start b ∷ xs) = cond (eqb a b) ((running ≡ false) × Alternates a true xs) (Alternates a running xs)
+Alternates a running (finish b ∷ xs) = cond (eqb a b) ((running ≡ true) × Alternates a false xs) (Alternates a running xs)
+
+-- every actor starts, finishes, starts again, and so on
+abbrev pub Lawful : List Event → Type 0
+Lawful xs = (a : ℕ) → Alternates a false xs
+
+-- an edge from u to v with delay d: start number k of v comes after finish number k - d of u, for every k above d
+abbrev pub Obeys : List Event → Edge → Type 0
+Obeys xs e = (ys zs : List Event) (k : ℕ) → xs ≡ ys ++ (start (e .receiver) ∷ zs) → k ≡ starts (e .receiver) ys + 1 → e .delay < k
+    → k - e .delay ≤ finishes (e .sender) ys
+
+abbrev pub In : Edge → List Edge → Type 0
+In e [] = ⊥
+In e (f ∷ es) = (e ≡ f) ⊎ In e es
+
+abbrev pub Obeys-all : List Event → List Edge → Type 0
+Obeys-all xs es = (e : Edge) → In e es → Obeys xs e
+
+-- whoever obeys es obeys e too
+abbrev pub Enforces : List Edge → Edge → Type 0
+Enforces es e = (xs : List Event) → Lawful xs → Obeys-all xs es → Obeys xs e
+
+-- one or more edges of es that lead from u to v, with their total delay
+pub data Path (es : List Edge) : ℕ → ℕ → ℕ → Type 0 where
+  last : {u v d : ℕ} → In (edge u v d) es → Path es u v d
+  step : {u w v t : ℕ} (d : ℕ) → In (edge u w d) es → Path es w v t → Path es u v (d + t)
+
+-- no closed path has total delay 0
+abbrev pub Live : List Edge → Type 0
+Live es = (u : ℕ) → Path es u u 0 → ⊥
+
+-- both ends of every edge are actors below n
+abbrev pub Within : ℕ → List Edge → Type 0
+Within n es = (e : Edge) → In e es → (e .sender < n) × (e .receiver < n)
