@@ -6,7 +6,7 @@ use Prim.Native.Nat.{ℕ, zero, suc, _+_, _≤_, _<_}
 use native.Mathlib.Omega.{arith}
 use lib.Dec.{eqb}
 use Rattle.std.proofs.shelf.Ways.{tells}
-use Rattle.std.proofs.shelf.Tests.{cases-bool, cases-eq, ne-eqb}
+use Rattle.std.proofs.shelf.Tests.{cases-bool, cases-eq, ne-eqb, true≢false}
 use Rattle.waits.specs.Counting.{count}
 
 -- the test that j fails too
@@ -27,24 +27,25 @@ pub count-without : (C : ℕ → Bool) (j m : ℕ) → j < m → C j ≡ true �
 unfolding without
 count-without C j zero h c = omega arith
 count-without C j (suc m) h c = elim (cases-eq j m) [
-    inl e ↦ let z = without-past C j m (omega arith) in grind (arith, tells)
-  | inr ne ↦ let z = count-without C j m (omega arith) c in grind (arith, tells) ]
+  | inl e ↦ let z = without-past C j m (omega arith) in grind (arith, tells)
+  | inr ne ↦ let z = count-without C j m (omega arith) c in grind (arith, tells)
+]
 
 -- where each number below k with K is the image of one below m with C, at most as many have K as have C
 pub counting : (K C : ℕ → Bool) (h : ℕ → ℕ) (k m : ℕ) → ((e : ℕ) → e < k → K e ≡ true → (j : ℕ) × (j < m) × (C j ≡ true) × (h j ≡ e))
     → count K k ≤ count C m
 counting K C h zero m s = omega arith
 counting K C h (suc k) m s = elim (cases-bool (K k)) [
-    inl t ↦ let (j, l, c, q) = s k (omega arith) t in
-        let i = counting K (without C j) h k m (λ e b t′.
-            let (j′, l′, c′, q′) = s e (omega arith) t′ in (j′, l′, without-keeps C j j′ c′ (λ z. omega (arith, ap h z)), q′)) in
-        rw t (omega (arith, count-without C j m l c))
-  | inr f ↦ let i = counting K C h k m (λ e l t. s e (omega arith) t) in rw f (omega arith) ]
+  | inl t ↦
+      let (j, l, c, q) = s k (omega arith) t in
+      rw t (omega (arith, count-without C j m l c, counting K (without C j) h k m (rest j q)))
+  | inr f ↦ rw f (omega (arith, counting K C h k m (λ e l t. s e (omega arith) t)))
+]
+  where
+    rest : (j : ℕ) → h j ≡ k → (e : ℕ) → e < k → K e ≡ true → (i : ℕ) × (i < m) × (without C j i ≡ true) × (h i ≡ e)
+    rest j q e l t = let (i, b, c, r) = s e (omega arith) t in (i, b, without-keeps C j i c (λ z. omega (arith, ap h z)), r)
 
 -- fewer numbers below n pass p than q if all that pass p pass q, and one passes q alone
 pub count-lt : (p q : ℕ → Bool) → ((i : ℕ) → p i ≡ true → q i ≡ true) → (a : ℕ) → p a ≡ false → q a ≡ true → (n : ℕ) → a < n → count p n < count q n
 count-lt p q h a pa qa n l =
-    omega (arith, count-without q a n l qa, counting p (without q a) (λ i. i) n n (λ i b t. (i, b, without-keeps q a i (h i t) (λ e. differ i t e), refl)))
-  where
-    differ : (i : ℕ) → p i ≡ true → i ≡ a → ⊥
-    differ i t e = let z : true ≡ false = cc in let y : _≡_ {A = ℕ} 0 1 = cc in omega arith
+    omega (arith, count-without q a n l qa, counting p (without q a) (λ i. i) n n (λ i b t. (i, b, without-keeps q a i (h i t) (λ e. true≢false (cc)), refl)))

@@ -2,10 +2,10 @@
 use mathlib.Core.Path.{_≡_}
 use mathlib.Core.List.{List, [], _∷_}
 use mathlib.Core.Logic.{inl, inr}
-use Prim.Native.Nat.{ℕ, suc, _+_, _≤_, _<_}
+use Prim.Native.Nat.{ℕ, suc, _+_, _≤_}
 use native.Mathlib.Omega.{arith}
 use Rattle.records.specs.declared.tables.Edge.{Edge}
-use Rattle.waits.specs.Events.{In, Within}
+use Rattle.waits.specs.Events.{Within}
 
 pub above-ends : List Edge → ℕ
 above-ends [] = 0

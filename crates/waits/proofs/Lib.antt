@@ -6,3 +6,7 @@ pub mod Waits
 pub mod Ends
 pub mod Shorter
 pub mod Least
+pub mod Ranks
+pub mod Progress
+pub mod Targets
+pub mod Enforced

@@ -1,5 +1,5 @@
 -- Paths: one after the other, over more edges, and over fewer.
-use mathlib.Core.Path.{_≡_, subst, sym}
+use mathlib.Core.Path.{sym, subst}
 use mathlib.Core.List.{List, [], _∷_, _++_}
 use mathlib.Core.Logic.{_⊎_, inl, inr}
 use Prim.Native.Nat.{ℕ, _+_, _≤_}
@@ -31,6 +31,7 @@ path-over-fewer es fs detour p = along p
   where
     short : (u v d : ℕ) → In (edge u v d) (es ++ fs) → (c : ℕ) × (c ≤ d) × Path es u v c
     short u v d h = elim (in-++ (edge u v d) es fs h) [ inl l ↦ (d, omega arith, last l) | inr r ↦ detour (edge u v d) r ]
+
     along : {u v t : ℕ} → Path (es ++ fs) u v t → (d : ℕ) × (d ≤ t) × Path es u v d
     along (last {u} {v} {d} h) = short u v d h
     along (step {u} {w} d h p) =

@@ -1,9 +1,9 @@
 -- A path need not leave an actor twice, so one of few edges has at most its delay.
 use mathlib.Core.Path.{_≡_, refl, subst}
-use mathlib.Core.List.{List, [], _∷_}
+use mathlib.Core.List.{List}
 use mathlib.Core.Bool.{Bool, true}
 use mathlib.Core.Logic.{_⊎_, inl, inr}
-use Prim.Native.Nat.{ℕ, zero, suc, _+_, _-_, _*_, _≤_, _<_}
+use Prim.Native.Nat.{ℕ, zero, suc, _+_, _-_, _*_, _≤_}
 use native.Mathlib.Omega.{arith}
 use native.Mathlib.Nat.{add-zero, suc-mul}
 use Rattle.std.proofs.shelf.Tests.{cases-eq}
@@ -17,12 +17,16 @@ use Rattle.waits.proofs.Counting.{without, without-keeps, count-without}
 abbrev pub Then : List Edge → (ℕ → ℕ → Type 0) → ℕ → ℕ → Type 0
 Then es P u t = (w : ℕ) × (d : ℕ) × (r : ℕ) × In (edge u w d) es × P w r × (d + r ≡ t)
 
+-- no edge, from u to v
+abbrev pub Stop : ℕ → ℕ → ℕ → Type 0
+Stop u v t = (u ≡ v) × (t ≡ 0)
+
 -- at most k edges, or none, from u to v
 abbrev pub Walk : List Edge → ℕ → ℕ → ℕ → ℕ → Type 0
-Walk es zero u v t = (u ≡ v) × (t ≡ 0)
-Walk es (suc k) u v t = ((u ≡ v) × (t ≡ 0)) ⊎ Then es (λ w r. Walk es k w v r) u t
+Walk es zero u v t = Stop u v t
+Walk es (suc k) u v t = Stop u v t ⊎ Then es (λ w r. Walk es k w v r) u t
 
-only-edge : (es : List Edge) (u w v d r t : ℕ) → In (edge u w d) es → (w ≡ v) × (r ≡ 0) → d + r ≡ t → Path es u v t
+only-edge : (es : List Edge) (u w v d r t : ℕ) → In (edge u w d) es → Stop w v r → d + r ≡ t → Path es u v t
 only-edge es u w v d r t h s q = subst (λ x. Path es u x t) (s .0) (subst (λ n. Path es u w n) (omega arith) (last h))
 
 -- an edge and a walk are a path
@@ -45,13 +49,19 @@ from-last : (es : List Edge) (A : ℕ → Bool) (u : ℕ) {x v t : ℕ} → Rout
     → Route es (without A u) x v t ⊎ ((m : ℕ) × (m ≤ t) × Then es (λ w r. Route es (without A u) w v r) u m)
 from-last es A u stay = inl stay
 from-last es A u (leave {u = x} {w} {v} {t} d a h p) = elim (from-last es A u p) [
-    inl q ↦ elim (cases-eq x u) [
-        inl e ↦ inr (d + t, omega arith, (w, d, t, subst (λ y. In (edge y w d) es) e h, q, refl))
-      | inr ne ↦ inl (leave d (without-keeps A u x a ne) h q) ]
-  | inr c ↦ inr (c .0, omega arith, c .2) ]
+  | inl q ↦ elim (cases-eq x u) [
+    | inl e ↦ inr (d + t, omega arith, (w, d, t, subst (λ y. In (edge y w d) es) e h, q, refl))
+    | inr ne ↦ inl (leave d (without-keeps A u x a ne) h q)
+  ]
+  | inr c ↦ inr (c .0, omega arith, c .2)
+]
+
+count-all : (n : ℕ) → count (λ _. true) n ≡ n
+count-all zero = refl
+count-all (suc n) = omega (arith, count-all n)
 
 module _ (es : List Edge) (n : ℕ) (within : Within n es) where
-  -- where c actors pass the test, a route that leaves only those has a walk of c edges
+  -- if c actors pass the test, a route that leaves only those has a walk of at most c edges and at most its delay
   abbrev Few : ℕ → Type 0
   Few c = (A : ℕ → Bool) → count A n ≡ c → (u v t : ℕ) → Route es A u v t → (m : ℕ) × (m ≤ t) × Walk es c u v m
 
@@ -60,8 +70,9 @@ module _ (es : List Edge) (n : ℕ) (within : Within n es) where
   few-more c few A k u w v d t a h p =
       let fewer = count-without A u n (within (edge u w d) h .0) a in
       elim (from-last es A u p) [
-          inl q ↦ let (m, l, i) = few (without A u) (omega arith) w v t q in (d + m, omega arith, (w, d, m, h, i, refl))
-        | inr (m, l, (x, c′, r, h′, q, e)) ↦ let (m′, l′, i) = few (without A u) (omega arith) x v r q in (c′ + m′, omega arith, (x, c′, m′, h′, i, refl)) ]
+        | inl q ↦ let (m, l, i) = few (without A u) (omega arith) w v t q in (d + m, omega arith, (w, d, m, h, i, refl))
+        | inr (m, l, (x, c′, r, h′, q, e)) ↦ let (m′, l′, i) = few (without A u) (omega arith) x v r q in (c′ + m′, omega arith, (x, c′, m′, h′, i, refl))
+      ]
 
   few : (c : ℕ) → Few c
   few zero A k _ _ _ stay = (0, omega arith, (refl, refl))
@@ -69,12 +80,8 @@ module _ (es : List Edge) (n : ℕ) (within : Within n es) where
   few (suc c) A k _ _ _ stay = (0, omega arith, inl (refl, refl))
   few (suc c) A k _ _ _ (leave {u} {w} {v} {t} d a h p) = let (m, l, i) = few-more c (few c) A k u w v d t a h p in (m, l, inr i)
 
-  all : (k : ℕ) → count (λ _. true) k ≡ k
-  all zero = refl
-  all (suc k) = omega (arith, all k)
-
   first : (u w v d t : ℕ) → In (edge u w d) es → Route es (λ _. true) w v t → (m : ℕ) × (m ≤ d + t) × Then es (λ x r. Walk es (n - 1) x v r) u m
-  first u w v d t h p = few-more (n - 1) (few (n - 1)) (λ _. true) (omega (arith, all n, within (edge u w d) h)) u w v d t refl h p
+  first u w v d t h p = few-more (n - 1) (few (n - 1)) (λ _. true) (omega (arith, count-all n, within (edge u w d) h)) u w v d t refl h p
 
   -- over edges within n actors a path has one of at most n edges and at most its delay
   pub path-few : (u v t : ℕ) → Path es u v t → (m : ℕ) × (m ≤ t) × Then es (λ w r. Walk es (n - 1) w v r) u m

@@ -1,15 +1,15 @@
 -- What a path makes wait, and what a closed path of delay 0 blocks.
 use mathlib.Core.Path.{_≡_, refl}
 use mathlib.Core.List.{List, [], _∷_}
-use Prim.Native.Nat.{ℕ, suc, _+_, _≤_}
+use Prim.Native.Nat.{ℕ, suc, _≤_}
 use native.Mathlib.Omega.{arith}
 use lib.ListN.{take}
 use Rattle.records.specs.declared.tables.Edge.{Edge}
 use Rattle.records.specs.Tables.{edge}
-use Rattle.waits.specs.Events.{Event, start, finish, starts, finishes, Lawful, Obeys, Obeys-all, Enforces, Path, last, step}
-use Rattle.waits.proofs.Prefixes.{Obeys-counts, lawful-counts, obeys-counts, counts-obeys}
+use Rattle.waits.specs.Events.{Event, start, finish, starts, finishes, Lawful, Obeys-all, Enforces, Path, last, step}
+use Rattle.waits.proofs.Prefixes.{Obeys-now, Throughout, lawful-counts, obeys-counts, counts-obeys}
 
-path-counts : {es : List Edge} (xs : List Event) → Lawful xs → Obeys-all xs es → {u v d : ℕ} → Path es u v d → Obeys-counts xs (edge u v d)
+path-counts : {es : List Edge} (xs : List Event) → Lawful xs → Obeys-all xs es → {u v d : ℕ} → Path es u v d → Throughout (Obeys-now (edge u v d)) xs
 path-counts xs l o (last {u} {v} {d} h) k = obeys-counts xs (edge u v d) (o (edge u v d) h) k
 path-counts xs l o (step {u} {w} d h p) k =
     omega (arith, lawful-counts xs l w k, obeys-counts xs (edge u w d) (o (edge u w d) h) k, path-counts xs l o p k)

@@ -1,4 +1,4 @@
--- Self-timed execution: actors start and finish, and an edge lets starts of its receiver wait for finishes of its sender.
+-- Self-timed execution: actors start and finish, and an edge makes starts of its receiver wait for finishes of its sender.
 use mathlib.Core.Path.{_≡_}
 use mathlib.Core.List.{List, [], _∷_, _++_}
 use mathlib.Core.Bool.{Bool, true, false, cond}
@@ -12,11 +12,13 @@ pub data Event : Type 0 where
   start : ℕ → Event
   finish : ℕ → Event
 
+-- how often actor a starts
 abbrev pub starts : ℕ → List Event → ℕ
 starts a [] = 0
 starts a (start b ∷ xs) = cond (eqb a b) 1 0 + starts a xs
 starts a (finish b ∷ xs) = starts a xs
 
+-- how often actor a finishes
 abbrev pub finishes : ℕ → List Event → ℕ
 finishes a [] = 0
 finishes a (start b ∷ xs) = finishes a xs
@@ -37,14 +39,16 @@ abbrev pub Obeys : List Event → Edge → Type 0
 Obeys xs e = (ys zs : List Event) (k : ℕ) → xs ≡ ys ++ (start (e .receiver) ∷ zs) → k ≡ starts (e .receiver) ys + 1 → e .delay < k
     → k - e .delay ≤ finishes (e .sender) ys
 
+-- e is one of the edges
 abbrev pub In : Edge → List Edge → Type 0
 In e [] = ⊥
 In e (f ∷ es) = (e ≡ f) ⊎ In e es
 
+-- every one of the edges is obeyed
 abbrev pub Obeys-all : List Event → List Edge → Type 0
 Obeys-all xs es = (e : Edge) → In e es → Obeys xs e
 
--- whoever obeys es obeys e too
+-- every lawful list that obeys all of es obeys e
 abbrev pub Enforces : List Edge → Edge → Type 0
 Enforces es e = (xs : List Event) → Lawful xs → Obeys-all xs es → Obeys xs e
 
