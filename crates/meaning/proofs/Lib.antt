@@ -4,3 +4,4 @@ pub mod Free
 pub mod Reaching
 pub mod Joining
 pub mod Turns
+pub mod OrderEdges

@@ -14,18 +14,18 @@ use Rattle.std.specs.declared.option.Option.the-variants.{Some, None}
 use Rattle.std.proofs.shelf.Tests.{cases-lt, cases-eq, cases-bool, cond-true, cond-false, eqb-true, eqb-false, eq-eqb, cases-order}
 use Rattle.records.specs.declared.tables.Actor.{Actor}
 use Rattle.records.specs.declared.tables.Edge.{Edge}
-use Rattle.records.specs.Tables.{edge}
+use Rattle.records.specs.Tables.{edge, processor-of}
 use Rattle.waits.specs.Events.{In, Path, last, step}
 use Rattle.waits.proofs.Paths.{path-joined}
-use Rattle.planning.specs.Edges.{processor-of, last-on, edge-into, order-edge, orders}
+use Rattle.planning.specs.Edges.{last-on, edge-into, order-edge, orders}
 
 -- the last actor below k on a processor: it is on it, and none between it and k is
-record Last (actors : List Actor) (p k u : ℕ) : Type 0 where
+pub record Last (actors : List Actor) (p k u : ℕ) : Type 0 where
   pub below : u < k
   pub on : processor-of actors u ≡ p
   pub highest : (w : ℕ) → w < k → processor-of actors w ≡ p → w ≤ u
 
-last-found : (actors : List Actor) (p k : ℕ)
+pub last-found : (actors : List Actor) (p k : ℕ)
     → ((u : ℕ) × (last-on actors p k ≡ Some u) × Last actors p k u) ⊎ ((last-on actors p k ≡ None) × ((w : ℕ) → w < k → processor-of actors w ≡ p → ⊥))
 last-found actors p zero = inr (refl, λ w h e. omega arith)
 last-found actors p (suc k) =
@@ -51,18 +51,18 @@ in-counting f a (suc k) i lo hi =
     (cases-eq i a)
 
 module _ (actors : List Actor) where
-  abbrev on : ℕ → ℕ
+  abbrev pub on : ℕ → ℕ
   on u = processor-of actors u
 
   -- the order's edge into v
-  entered : (v : ℕ) → v < length actors → (e : Edge) → order-edge actors v ≡ e → In e (orders actors)
+  pub entered : (v : ℕ) → v < length actors → (e : Edge) → order-edge actors v ≡ e → In e (orders actors)
   entered v h e p = subst (λ x. In x (orders actors)) p (in-counting (order-edge actors) 0 (length actors) v (omega arith) (omega arith))
 
-  from-before : (v u : ℕ) → last-on actors (on v) v ≡ Some u → order-edge actors v ≡ edge u v 0
+  pub from-before : (v u : ℕ) → last-on actors (on v) v ≡ Some u → order-edge actors v ≡ edge u v 0
   unfolding order-edge
   from-before v u e = ap (λ b. edge-into v b (last-on actors (on v) (length actors))) e
 
-  from-last : (v u : ℕ) → last-on actors (on v) v ≡ None → last-on actors (on v) (length actors) ≡ Some u → order-edge actors v ≡ edge u v 1
+  pub from-last : (v u : ℕ) → last-on actors (on v) v ≡ None → last-on actors (on v) (length actors) ≡ Some u → order-edge actors v ≡ edge u v 1
   unfolding order-edge
   from-last v u e l = ap (λ b. edge-into v b (last-on actors (on v) (length actors))) e ∙ ap (edge-into v None) l
 

@@ -14,8 +14,8 @@ use Rattle.std.proofs.shelf.Tests.{cond-both}
 use Rattle.records.specs.declared.tables.Actor.{Actor}
 use Rattle.records.specs.declared.tables.Edge.{Edge}
 use Rattle.records.specs.declared.tables.Link.{Link}
-use Rattle.records.specs.Tables.{link-edge}
-use Rattle.planning.specs.Edges.{processor-of, last-on, edge-into, order-edge, orders, twins, without, Within}
+use Rattle.records.specs.Tables.{link-edge, processor-of}
+use Rattle.planning.specs.Edges.{last-on, edge-into, order-edge, orders, twins, without, Within}
 use Rattle.planner.specs.Within.{Ends-below}
 
 last-below : (actors : List Actor) (p k n : ℕ) → k ≤ n → found (last-on actors p k) (λ u. u < n)

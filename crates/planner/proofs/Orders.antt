@@ -9,8 +9,8 @@ use lib.ListN.{length}
 use Rattle.std.specs.declared.option.Option.{Option}
 use Rattle.std.specs.declared.option.Option.the-variants.{Some, None}
 use Rattle.records.specs.declared.tables.Actor.{Actor}
-use Rattle.records.specs.Tables.{edge}
-use Rattle.planning.specs.Edges.{processor-of, last-on, edge-into, order-edge}
+use Rattle.records.specs.Tables.{edge, processor-of}
+use Rattle.planning.specs.Edges.{last-on, edge-into, order-edge}
 
 pub last-on-more : (actors : List Actor) (p u k : ℕ) → u ≡ k + 1
     → last-on actors p u ≡ cond (eqb (processor-of actors k) p) (Some k) (last-on actors p k)

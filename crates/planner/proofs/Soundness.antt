@@ -1,79 +1,23 @@
--- What holds of tables that pass the checks.
-use mathlib.Core.Path.{_≡_, refl, _∙_, sym, ap}
-use mathlib.Core.Bool.{Bool, true, false, cond, _||_}
-use mathlib.Core.List.{List, [], _∷_}
-use Prim.Native.Nat.{ℕ, zero, suc, _+_, _*_, _<_, _≤_}
-use native.Mathlib.Omega.{arith}
-use lib.Dec.{eqb, leb, ltb}
-use lib.ListN.{length, getD, take}
+-- What the code may rely on once the checks have passed.
+use mathlib.Core.Path.{_≡_, refl}
+use mathlib.Core.List.{List}
+use Prim.Native.Nat.{ℕ}
+use lib.ListN.{length}
 use Rattle.std.specs.Vec.{made}
 use Rattle.std.specs.declared.result.Result.{Result}
 use Rattle.std.specs.declared.result.Result.the-variants.{Ok, Err}
-use Rattle.std.proofs.shelf.Tests.{or-parts, ltb-false, leb-false, cases-bool, cond-true, cond-false}
-use mathlib.Core.Logic.{⊎-elim}
 use Rattle.records.specs.declared.fault.Fault.{Fault}
-use Rattle.records.specs.declared.fault.Layer.{Layer}
-use Rattle.records.specs.declared.fault.Layer.the-variants.{Table}
 use Rattle.records.specs.declared.tables.Actor.{Actor}
 use Rattle.records.specs.declared.tables.Link.{Link}
-use Rattle.records.specs.Faults.{fault, then}
-use Rattle.records.specs.Tables.{no-link}
-use Rattle.planning.specs.Checks.{refuse-if, refuse-first, check-counts, bad-actor, bad-link, check-tables}
-use Rattle.planner.specs.Within.{Ends-below, Sound}
-
-pub err-not-ok : (f : Fault) → _≡_ {A = Result Unit Fault} (Err f) (Ok tt) → ⊥
-err-not-ok f e = let z : _≡_ {A = ℕ} 0 1 = cc in omega arith
-
-first-ok : (r : Result Unit Fault) (next : Unit → Result Unit Fault) → then r next ≡ Ok tt → r ≡ Ok tt
-first-ok (Ok x) next e = refl
-first-ok (Err f) next e = absurd (err-not-ok f e)
-
-next-ok : (r : Result Unit Fault) (next : Unit → Result Unit Fault) → then r next ≡ Ok tt → next tt ≡ Ok tt
-next-ok (Ok x) next e = e
-next-ok (Err f) next e = absurd (err-not-ok f e)
-
-passed : (bad : Bool) (f : Fault) → refuse-if bad f ≡ Ok tt → bad ≡ false
-passed true f e = absurd (err-not-ok f e)
-passed false f e = refl
-
-none-bad : {X : Type 0} (bad : X → Bool) (number : ℕ) (layer : Layer) (k : ℕ) (xs : List X) (d : X) → refuse-first bad number layer k xs ≡ Ok tt
-    → (i : ℕ) → i < length xs → bad (getD xs i d) ≡ false
-none-bad bad number layer k [] d e i h = absurd (omega arith)
-none-bad bad number layer k (x ∷ xs) d e zero h =
-    ⊎-elim (λ (t : bad x ≡ true). absurd (err-not-ok (fault number layer k) (sym (cond-true _ _ _ t) ∙ e))) (λ (t : bad x ≡ false). t) (cases-bool (bad x))
-none-bad bad number layer k (x ∷ xs) d e (suc i) h =
-    ⊎-elim (λ (t : bad x ≡ true). absurd (err-not-ok (fault number layer k) (sym (cond-true _ _ _ t) ∙ e)))
-    (λ (t : bad x ≡ false). none-bad bad number layer (k + 1) xs d (sym (cond-false _ _ _ t) ∙ e) i (omega arith)) (cases-bool (bad x))
+use Rattle.planning.specs.Checks.{check-tables}
+use Rattle.planning.proofs.Passing.{tables-passed}
+use Rattle.planner.specs.Within.{Sound}
 
 pub sound : (actors : List Actor) (links : List Link) (given lead delays reach : ℕ) → check-tables actors links given lead delays reach ≡ Ok tt
     → Sound (length actors) links given delays reach
-unfolding check-tables
 sound actors links given lead delays reach ok =
-    let n = length actors in
-    let counts = check-counts n given (length links) lead delays reach in
-    let r5 = refuse-if (eqb n 0 || ltb 64 n) (fault 5 Table 0) in
-    let r6 = refuse-if (ltb 256 given || ltb (length links) (given + 15)) (fault 6 Table 0) in
-    let r7 = refuse-if (eqb lead 0 || ltb 1000 lead) (fault 7 Table 0) in
-    let from5 = first-ok counts _ ok in
-    let from6 = next-ok r5 _ from5 in
-    let from7 = next-ok r6 _ from6 in
-    let from8 = next-ok r7 _ from7 in
-    let five = or-parts (eqb n 0) (ltb 64 n) (passed _ (fault 5 Table 0) (first-ok r5 _ from5)) in
-    let six = or-parts (ltb 256 given) (ltb (length links) (given + 15)) (passed _ (fault 6 Table 0) (first-ok r6 _ from6)) in
-    let eight = or-parts (ltb delays (n * n)) (ltb reach (n * n)) (passed _ (fault 8 Table 0) from8) in
-    let links-ok = next-ok (refuse-first bad-actor 9 Table 0 actors) _ (next-ok counts _ ok) in
-    record {
-      few = ltb-false 64 n (five .1);
-      given-few = ltb-false 256 given (six .0);
-      links-room = ltb-false (length links) (given + 15) (six .1);
-      delays-room = ltb-false delays (n * n) (eight .0);
-      reach-room = ltb-false reach (n * n) (eight .1);
-      ends = λ k h.
-          let l = getD (take given links) k no-link in
-          let fine = or-parts (leb n (l .sender)) (leb n (l .receiver) || ltb 1000 (l .delay)) (none-bad (bad-link n) 10 Table 0 (take given links) no-link links-ok k h) in
-          let also = or-parts (leb n (l .receiver)) (ltb 1000 (l .delay)) (fine .1) in
-          (leb-false n (l .sender) (fine .0), leb-false n (l .receiver) (also .0));
-    }
+    let p = tables-passed actors links given lead delays reach ok in
+    record { few = p .few; given-few = p .given-few; links-room = p .links-room; delays-room = p .delays-room; reach-room = p .reach-room; ends = p .ends }
 
 -- the same of a call's answer
 pub made-sound : (r : Result Unit Fault) (P : Type 0) → (r ≡ Ok tt → P) → made r (λ _. P)

@@ -3,18 +3,14 @@ use mathlib.Core.Bool.{Bool, cond, _&&_}
 use mathlib.Core.List.{List, [], _∷_, _++_, map}
 use Prim.Native.Nat.{ℕ, zero, suc, _+_, _<_}
 use lib.Dec.{eqb, leb}
-use lib.ListN.{length, getD}
+use lib.ListN.{length}
 use Rattle.std.specs.Iters.{counting}
 use Rattle.std.specs.declared.option.Option.{Option}
 use Rattle.std.specs.declared.option.Option.the-variants.{Some, None}
 use Rattle.records.specs.declared.tables.Actor.{Actor}
 use Rattle.records.specs.declared.tables.Edge.{Edge}
 use Rattle.records.specs.declared.tables.Link.{Link}
-use Rattle.records.specs.Tables.{no-actor, edge, link-edge}
-
--- the processor of an actor
-abbrev pub processor-of : List Actor → ℕ → ℕ
-processor-of actors u = getD actors u no-actor .processor
+use Rattle.records.specs.Tables.{edge, processor-of}
 
 -- the highest actor below k on the processor p
 abbrev pub last-on : List Actor → ℕ → ℕ → Option ℕ

@@ -7,11 +7,11 @@ use lib.ListN.{length, getD}
 use Rattle.records.specs.declared.tables.Actor.{Actor}
 use Rattle.records.specs.declared.tables.Edge.{Edge}
 use Rattle.records.specs.declared.tables.Link.{Link}
-use Rattle.records.specs.Tables.{link-edge}
+use Rattle.records.specs.Tables.{link-edge, processor-of}
 use Rattle.paths.specs.Closure.{entry}
 use Rattle.paths.specs.Models.{delay-ops}
 use Rattle.paths.specs.declared.delay.Delay.{Delay}
-use Rattle.planning.specs.Edges.{processor-of, orders, without}
+use Rattle.planning.specs.Edges.{orders, without}
 use Rattle.planning.specs.Tables.{least-delays}
 
 -- both ends are on one processor

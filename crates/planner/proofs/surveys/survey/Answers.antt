@@ -11,7 +11,8 @@ use Rattle.planning.specs.declared.Sight.the-variants.{Directed}
 use Rattle.planning.specs.Checks.{check-cycles}
 use Rattle.planning.specs.Planning.{drawing, base-edges, surveyed}
 use Rattle.planner.specs.Within.{Ends-below}
-use Rattle.planner.proofs.Soundness.{made-sound, err-not-ok}
+use Rattle.planning.proofs.Passing.{err-not-ok}
+use Rattle.planner.proofs.Soundness.{made-sound}
 use Rattle.planner.proofs.Surveying.{filled-over, front-of, survey-refused, survey-deadlocked, survey-live}
 use Rattle.planner.proofs.surveys.survey.Needs as need
 
