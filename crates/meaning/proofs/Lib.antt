@@ -5,3 +5,7 @@ pub mod Reaching
 pub mod Joining
 pub mod Turns
 pub mod OrderEdges
+pub mod Members
+pub mod Following
+pub mod Drawn
+pub mod Deadlocks
