@@ -12,10 +12,10 @@ use Rattle.records.specs.declared.tables.Link.{Link}
 use Rattle.records.specs.Tables.{no-link, link-edge, processor-of}
 use Rattle.waits.specs.Drawings.{Order}
 use Rattle.waits.specs.Events.{In, Within}
+use Rattle.waits.proofs.Paths.{in-++}
 use Rattle.planning.specs.Edges.{orders}
 use Rattle.planning.specs.Planning.{Given, tables-check, base-edges}
 use Rattle.planning.proofs.Passing.{Passed, tables-passed}
-use Rattle.meaning.proofs.Members.{in-either}
 use Rattle.meaning.proofs.OrderEdges.{order-if-in}
 use Rattle.meaning.proofs.Reaching.{Small}
 
@@ -43,7 +43,7 @@ pub small-with : (actors : List Actor) (ls : List Link) → length actors ≤ 64
     → ((k : ℕ) → k < length ls → Fine (length actors) (link-edge (getD ls k no-link))) → Small (length actors) (orders actors ++ map link-edge ls)
 small-with actors ls few fine =
     let one : (e : Edge) → In e (orders actors ++ map link-edge ls) → Fine (length actors) e = λ e i.
-      elim (in-either e (orders actors) (map link-edge ls) i) [
+      elim (in-++ e (orders actors) (map link-edge ls) i) [
         inl j ↦ order-small actors e (order-if-in actors e j)
       | inr j ↦ let r = link-place ls e j in subst (Fine (length actors)) (sym (r .2)) (fine (r .0) (r .1)) ] in
     record { few = few; within = λ e i. (one e i .0, one e i .1); short = λ e i. one e i .2 }

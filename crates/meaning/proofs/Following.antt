@@ -5,8 +5,9 @@ use Rattle.records.specs.declared.tables.Actor.{Actor}
 use Rattle.records.specs.declared.tables.Edge.{Edge}
 use Rattle.waits.specs.Drawings.{Follows, Order, Enforced}
 use Rattle.waits.specs.Events.{Event, In, Lawful, Obeys, Obeys-all, Enforces}
+use Rattle.waits.proofs.Paths.{in-++}
 use Rattle.planning.specs.Edges.{orders}
-use Rattle.meaning.proofs.Members.{in-left, in-right, in-either}
+use Rattle.meaning.proofs.Chosen.{in-left, in-right}
 use Rattle.meaning.proofs.OrderEdges.{order-if-in, in-if-order}
 
 module _ (actors : List Actor) (links : List Edge) (xs : List Event) where
@@ -18,7 +19,7 @@ module _ (actors : List Actor) (links : List Edge) (xs : List Event) where
   }
 
   pub obeys-edges : Follows actors links xs → Obeys-all xs (orders actors ++ links)
-  obeys-edges f e i = elim (in-either e (orders actors) links i) [
+  obeys-edges f e i = elim (in-++ e (orders actors) links i) [
       inl j ↦ f .obeys-orders e (order-if-in actors e j)
     | inr j ↦ f .obeys-links e j ]
 

@@ -19,7 +19,7 @@ pub path-over-more : {es fs : List Edge} → ((e : Edge) → In e es → In e fs
 path-over-more more (last {u} {v} {d} h) = last (more (edge u v d) h)
 path-over-more more (step {u} {w} d h p) = step d (more (edge u w d) h) (path-over-more more p)
 
-in-++ : (e : Edge) (es fs : List Edge) → In e (es ++ fs) → In e es ⊎ In e fs
+pub in-++ : (e : Edge) (es fs : List Edge) → In e (es ++ fs) → In e es ⊎ In e fs
 in-++ e [] fs h = inr h
 in-++ e (f ∷ es) fs (inl q) = inl (inl q)
 in-++ e (f ∷ es) fs (inr h) = elim (in-++ e es fs h) [ inl l ↦ inl (inr l) | inr r ↦ inr r ]
