@@ -1,4 +1,4 @@
--- Back links join actors of the drawing, with delay 0 or the lead.
+-- Back links join actors of the drawing, with delay 0 or the lead, and are marked as back links.
 use mathlib.Core.Path.{_≡_, refl, ap, sym, subst, _∙_}
 use mathlib.Core.Bool.{Bool, cond, _&&_}
 use mathlib.Core.List.{List, [], _∷_, _++_}
@@ -22,10 +22,10 @@ use Rattle.planning.specs.Groups.{stands-better, stand-below, stand-in}
 abbrev pub Fine-link : ℕ → Link → Type 0
 Fine-link n l = (l .sender < n) × (l .receiver < n) × (l .delay ≤ 1000)
 
--- each link of the list is fine
+-- each link of the list is fine, and marked as a back link
 abbrev pub All-fine : ℕ → List Link → Type 0
 All-fine n [] = Unit {0}
-All-fine n (l ∷ ls) = Fine-link n l × All-fine n ls
+All-fine n (l ∷ ls) = (Fine-link n l × (l .mark ≡ 3)) × All-fine n ls
 
 append-fine : (n : ℕ) (ls ks : List Link) → All-fine n ls → All-fine n ks → All-fine n (ls ++ ks)
 append-fine n [] ks p q = q
@@ -36,7 +36,7 @@ take-fine n zero ls p = tt
 take-fine n (suc k) [] p = tt
 take-fine n (suc k) (l ∷ ls) p = (p .0, take-fine n k ls (p .1))
 
-pub fine-at : (n : ℕ) (ls : List Link) → All-fine n ls → (k : ℕ) → k < length ls → Fine-link n (getD ls k no-link)
+pub fine-at : (n : ℕ) (ls : List Link) → All-fine n ls → (k : ℕ) → k < length ls → Fine-link n (getD ls k no-link) × (getD ls k no-link .mark ≡ 3)
 fine-at n [] p k h = absurd (omega arith)
 fine-at n (l ∷ ls) p zero h = p .0
 fine-at n (l ∷ ls) p (suc k) h = fine-at n ls (p .1) k (omega arith)
@@ -72,7 +72,7 @@ module _ (g : Ground) (lead : ℕ) (short : lead ≤ 1000) where
   chain-fine : (earlier : Option ℕ) (us : List ℕ) → found earlier (λ w. w < count g) → All-below (count g) us → All-fine (count g) (chain g earlier us)
   chain-fine earlier [] e h = tt
   chain-fine None (u ∷ us) e h = chain-fine (Some u) us (h .0) (h .1)
-  chain-fine (Some w) (u ∷ us) e h = ((stand-bound w e, stand-bound u (h .0), omega arith), chain-fine (Some u) us (h .0) (h .1))
+  chain-fine (Some w) (u ∷ us) e h = (((stand-bound w e, stand-bound u (h .0), omega arith), refl), chain-fine (Some u) us (h .0) (h .1))
 
   first-below : (p : ℕ) (us : List ℕ) → p < count g → All-below (count g) us → first-of p us < count g
   first-below p [] hp h = hp
@@ -87,7 +87,7 @@ module _ (g : Ground) (lead : ℕ) (short : lead ≤ 1000) where
   part-fine p hp =
       append-fine (count g) (chain g None (groups-of g Entry p)) _ (chain-fine None (groups-of g Entry p) tt (groups-below Entry p))
       (append-fine (count g) (chain g None (groups-of g Exit p)) (closing g lead p ∷ []) (chain-fine None (groups-of g Exit p) tt (groups-below Exit p))
-        ((stand-bound _ (last-below p (groups-of g Exit p) hp (groups-below Exit p)), stand-bound _ (first-below p (groups-of g Entry p) hp (groups-below Entry p)), short), tt))
+        (((stand-bound _ (last-below p (groups-of g Exit p) hp (groups-below Exit p)), stand-bound _ (first-below p (groups-of g Entry p) hp (groups-below Entry p)), short), refl), tt))
 
   among-fine : (ps : List ℕ) → All-below (count g) ps → All-fine (count g) (backs-among g lead ps)
   among-fine [] h = tt

@@ -19,3 +19,5 @@ pub mod Covers
 pub mod Dropping
 pub mod Fewest
 pub mod Enforcing
+pub mod Locals
+pub mod FinalMarks

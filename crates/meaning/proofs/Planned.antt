@@ -25,7 +25,7 @@ module _ (d : Given) (ok : tables-check d ≡ Ok tt) where
         subst (Fine-link (length (d .actors))) (sym (getD-append-left given (back-links d) no-link k l)) (p .ends k l .0, p .ends k l .1, p .short k l))
       (λ (l : length given ≤ k).
         subst (Fine-link (length (d .actors))) (sym (getD-append-right given (back-links d) (length given) k no-link refl l))
-        (fine-at (length (d .actors)) (back-links d) (backs-fine (ground d) (d .lead) (p .lead-high)) (k - length given) (omega (arith, length-append given (back-links d)))))
+        (fine-at (length (d .actors)) (back-links d) (backs-fine (ground d) (d .lead) (p .lead-high)) (k - length given) (omega (arith, length-append given (back-links d))) .0))
       (cases-lt k (length given))
 
   pub all-small : Small (length (d .actors)) (edges-with d (all-links d))

@@ -23,7 +23,8 @@ use Rattle.planning.proofs.Standing.{length-paths-over}
 use Rattle.planner.specs.Appending.{put-all, put-end}
 use Rattle.planner.specs.Steps.{with-backs, delays-over, finished}
 use Rattle.planner.proofs.Placed.{put-all-is, put-end-is}
-use Rattle.planner.proofs.Rewriting.{length-numbered, front-edges-kept}
+use Rattle.planning.proofs.Numbered.{length-numbered}
+use Rattle.planner.proofs.Rewriting.{front-edges-kept}
 use Rattle.planner.proofs.Surveying.{filled-over, front-of}
 
 -- the back links stand after the given ones

@@ -17,7 +17,7 @@ use Rattle.planning.specs.Costs.{cost-before, cost-after}
 use Rattle.planning.specs.Marks.{mark-link, marked, size-link, sized}
 use Rattle.planning.specs.Planning.{Given, Outcome, Totals, over, base-delays, ground, back-links, all-links, plan-delays, plan-links, plan-totals, tables-check, cycles-check, refused, deadlocked, live, accepted, unless, surveyed, planned}
 use Rattle.planner.specs.Steps.{ground-of, with-backs, delays-over, finished}
-use Rattle.planner.proofs.Rewriting.{length-numbered}
+use Rattle.planning.proofs.Numbered.{length-numbered}
 use Rattle.planning.proofs.Passing.{err-not-ok}
 
 -- a table over a table of the same length

@@ -12,6 +12,7 @@ use Rattle.records.specs.declared.tables.Link.{Link}
 use Rattle.records.specs.declared.tables.Actor.{Actor}
 use Rattle.records.specs.declared.tables.Edge.{Edge}
 use Rattle.records.specs.Tables.{no-link, link-edge}
+use Rattle.planning.proofs.Numbered.{length-numbered}
 use Rattle.planning.specs.Marks.{numbered, mark-of, with-mark, mark-link, marked, with-size, size-of, size-link, sized}
 
 -- what comes next is as it was
@@ -21,10 +22,6 @@ still-here front xs i d e =
     getD-append-right front (drop i xs) i i d e (omega arith) ∙ getD-drop i xs (i - i) d ∙ ap (λ k. getD xs k d) at
 
 module _ {X : Type 0} (f : ℕ → X → X) where
-  pub length-numbered : (k : ℕ) (xs : List X) → length (numbered f k xs) ≡ length xs
-  length-numbered k [] = refl
-  length-numbered k (x ∷ xs) = ap suc (length-numbered (k + 1) xs)
-
   numbered-push : (k : ℕ) (xs : List X) (x : X) (j : ℕ) → k + length xs ≡ j → numbered f k (xs ++ (x ∷ [])) ≡ numbered f k xs ++ (f j x ∷ [])
   numbered-push k [] x j e = ap (λ i. f i x ∷ []) (sym (add-zero k) ∙ e)
   numbered-push k (y ∷ ys) x j e = ap (λ ls. f k y ∷ ls) (numbered-push (k + 1) ys x j (omega arith))
@@ -33,7 +30,7 @@ module _ {X : Type 0} (f : ℕ → X → X) where
   numbered-more : (xs : List X) (i : ℕ) (d : X) → i < length xs
       → set (numbered f 0 (take i xs) ++ drop i xs) i (f i (getD xs i d)) ≡ numbered f 0 (take (i + 1) xs) ++ drop (i + 1) xs
   numbered-more xs i d h =
-      let long : length (numbered f 0 (take i xs)) ≡ i = length-numbered 0 (take i xs) ∙ length-take-le i xs (omega arith) in
+      let long : length (numbered f 0 (take i xs)) ≡ i = length-numbered f 0 (take i xs) ∙ length-take-le i xs (omega arith) in
       let new : X = f i (getD xs i d) in
       ap (λ ys. set (numbered f 0 (take i xs) ++ ys) i new) (drop-more xs i d h)
       ∙ set-at (numbered f 0 (take i xs)) (getD xs i d) (drop (i + 1) xs) new i long
