@@ -21,3 +21,13 @@ pub mod Fewest
 pub mod Enforcing
 pub mod Locals
 pub mod FinalMarks
+pub mod Grounds
+pub mod Tallies
+pub mod Extremes
+pub mod Openers
+pub mod Heads
+pub mod Few
+pub mod Merging
+pub mod Grounding
+pub mod Costs
+pub mod Meaning

@@ -1,18 +1,25 @@
 -- What planning promises, in the words of the subject.
 use mathlib.Core.Path.{_≡_}
-use mathlib.Core.List.{List, map}
-use Prim.Native.Nat.{ℕ, _≤_, _<_}
-use lib.ListN.{length, take}
+use mathlib.Core.Bool.{Bool, _||_}
+use mathlib.Core.List.{List, _++_, map}
+use Prim.Native.Nat.{ℕ, _+_, _≤_, _<_}
+use lib.Dec.{eqb}
+use lib.ListN.{length, getD, take}
 use Rattle.std.specs.declared.result.Result.{Result}
 use Rattle.std.specs.declared.result.Result.the-variants.{Ok, Err}
 use Rattle.records.specs.declared.fault.Fault.{Fault}
 use Rattle.records.specs.declared.fault.Layer.the-variants.{Plan}
 use Rattle.records.specs.declared.tables.Edge.{Edge}
 use Rattle.records.specs.Faults.{fault}
-use Rattle.records.specs.Tables.{link-edge}
-use Rattle.waits.specs.Drawings.{Follows}
-use Rattle.waits.specs.Events.{Event, finishes, Path}
-use Rattle.planning.specs.Planning.{Given, Totals, base-edges, tables-check, planned}
+use Rattle.records.specs.Tables.{no-link, link-edge, processor-of}
+use Rattle.waits.specs.Counting.{count}
+use Rattle.waits.specs.Drawings.{Follows, Enforced}
+use Rattle.waits.specs.Events.{Event, starts, finishes, Path, Live}
+use Rattle.paths.specs.Closure.{entry}
+use Rattle.paths.specs.Models.{delay-ops}
+use Rattle.planning.specs.Edges.{orders, without}
+use Rattle.planning.specs.Planning.{Given, Totals, base-edges, edges-with, all-links, back-links, plan-delays, plan-links, tables-check, planned}
+use Rattle.meaning.specs.Choices.{place, chosen}
 
 -- the given links of a drawing
 abbrev pub given-edges : Given → List Edge
@@ -35,3 +42,58 @@ pub record Deadlock (d : Given) : Type 0 where
 
 abbrev pub Deadlock-exactly : Given → Type 0
 Deadlock-exactly d = tables-check d ≡ Ok tt → Deadlock d
+
+-- the links of the plan as edges, by number: the given ones, then the back links
+abbrev pub plan-edges : Given → List Edge
+plan-edges d = map link-edge (all-links d)
+
+-- mark and size of a link of the plan
+abbrev pub mark-at : Given → ℕ → ℕ
+mark-at d i = getD (plan-links d) i no-link .mark
+
+abbrev pub size-at : Given → ℕ → ℕ
+size-at d i = getD (plan-links d) i no-link .size
+
+-- the kept and back links
+abbrev pub waited : Given → ℕ → Bool
+waited d i = eqb (mark-at d i) 1 || eqb (mark-at d i) 3
+
+abbrev pub waited-edges : Given → List Edge
+waited-edges d = chosen (waited d) (plan-edges d)
+
+-- link i is given and joins two processors
+pub record Cross (d : Given) (i : ℕ) : Type 0 where
+  pub given : i < length (given-edges d)
+  pub across : processor-of (d .actors) (place (plan-edges d) i .sender) ≡ processor-of (d .actors) (place (plan-edges d) i .receiver) → ⊥
+
+-- a path from sender to receiver has at most the link's delay, and uses neither link i nor a twin of higher number
+abbrev pub Replaced : Given → ℕ → Type 0
+Replaced d i =
+    let e = place (plan-edges d) i in
+    (t : ℕ) × (t ≤ e .delay) × Path (orders (d .actors) ++ without i e 0 (plan-edges d)) (e .sender) (e .receiver) t
+
+-- a number that is the smallest total delay over paths from u to v, or 4,294,967,295 where there is none
+pub record Least (d : Given) (u v least : ℕ) : Type 0 where
+  pub attained : least < 4294967295 → Path (edges-with d (all-links d)) u v least
+  pub smallest : (t : ℕ) → Path (edges-with d (all-links d)) u v t → (least ≤ t) × (least ≤ 64000)
+
+-- what the plan of an accepted drawing means
+pub record Plan-means (d : Given) : Type 0 where
+  -- back links create no deadlock
+  pub live : Live (edges-with d (all-links d))
+  pub least : (u v : ℕ) → u < length (d .actors) → v < length (d .actors) → Least d u v (entry delay-ops (plan-delays d) (length (d .actors)) u v .value)
+  -- a cross link is dropped exactly when a path replaces it
+  pub dropped : (i : ℕ) → Cross d i → mark-at d i ≡ 0 → Replaced d i
+  pub replaced : (i : ℕ) → Cross d i → Replaced d i → mark-at d i ≡ 0
+  -- the kept and back links enforce the waits of all links
+  pub enough : (i : ℕ) → i < length (plan-edges d) → Enforced (d .actors) (waited-edges d) (place (plan-edges d) i)
+  -- every choice that does so has at least as many
+  pub fewest : (C : ℕ → Bool) → ((i : ℕ) → i < length (plan-edges d) → Enforced (d .actors) (chosen C (plan-edges d)) (place (plan-edges d) i))
+      → count (waited d) (length (plan-edges d)) ≤ count C (length (plan-edges d))
+  -- no cross link ever holds more values than it has cells
+  pub never-overfull : (i : ℕ) → Cross d i → (xs : List Event) → Follows (d .actors) (waited-edges d) xs → (k : ℕ)
+      → place (plan-edges d) i .delay + starts (place (plan-edges d) i .sender) (take k xs) ≤ finishes (place (plan-edges d) i .receiver) (take k xs) + size-at d i
+  -- and some list fills it exactly
+  pub can-be-full : (i : ℕ) → Cross d i → (xs : List Event) × Follows (d .actors) (waited-edges d) xs
+      × (place (plan-edges d) i .delay + starts (place (plan-edges d) i .sender) xs ≡ finishes (place (plan-edges d) i .receiver) xs + size-at d i)
+  pub cells-few : (i : ℕ) → Cross d i → size-at d i ≤ 65000
