@@ -97,6 +97,6 @@ module _ (g : Ground) (es : List Edge) (grounded : Grounded g es) where
       (cases-lt 0 n)
 
   -- so the room for 15 cuts none
-  pub backs-whole : ((u : ℕ) → u < n → processor-of (g .actors) u < 16) → (lead : ℕ) → backs g lead ≡ backs-among g lead (counting 0 n)
+  pub backs-uncut : ((u : ℕ) → u < n → processor-of (g .actors) u < 16) → (lead : ℕ) → backs g lead ≡ backs-among g lead (counting 0 n)
   unfolding backs
-  backs-whole low lead = take-all 15 (backs-among g lead (counting 0 n)) (few-backs low lead)
+  backs-uncut low lead = take-all 15 (backs-among g lead (counting 0 n)) (few-backs low lead)
