@@ -45,4 +45,10 @@ pub mod Distinct
 pub mod Told
 pub mod BacksNeeded
 pub mod GivenGround
+pub mod Joins
+pub mod Groups
+pub mod EndGroups
+pub mod Picked
+pub mod StandIns
+pub mod BackLinks
 pub mod Meaning
