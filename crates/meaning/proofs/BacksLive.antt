@@ -13,7 +13,8 @@ use Rattle.waits.specs.Events.{In, Path, last, Live}
 use Rattle.planning.specs.declared.End.the-variants.{Entry, Exit}
 use Rattle.planning.specs.Groups.{end-group}
 use Rattle.planning.specs.Backs.{Ground, count, stand, groups-of, backs-among}
-use Rattle.meaning.proofs.Mates.{Known, Linked, Last, end-last, last-end, last-mate, low, low-under, low-same}
+use Rattle.meaning.proofs.Known.{Known}
+use Rattle.meaning.proofs.Mates.{Linked, Last, end-last, last-end, last-mate, low, low-under, low-same}
 use Rattle.meaning.proofs.Rising.{counting-has, next-has, next-rises}
 use Rattle.meaning.proofs.Leaders.{Head, stand-under, stand-mate, stand-low, stand-last, groups-head, groups-rising}
 use Rattle.meaning.proofs.LinkKinds.{in-map, Kind, part-kind, backs-back}

@@ -15,7 +15,8 @@ use Rattle.waits.proofs.Paths.{in-++}
 use Rattle.planning.specs.declared.End.{End}
 use Rattle.planning.specs.declared.End.the-variants.{Entry, Exit}
 use Rattle.planning.specs.Backs.{Ground, count, stand, groups-of, back-link, closing, first-of, last-of}
-use Rattle.meaning.proofs.Mates.{Known, Linked, linked-goes, linked-ends, Mates, Last, Joined, joined-goes, joined-turn, linked-joined, cases-linked}
+use Rattle.meaning.proofs.Known.{Known}
+use Rattle.meaning.proofs.Mates.{Linked, linked-goes, linked-ends, Mates, Last, Joined, joined-goes, joined-turn, linked-joined, cases-linked}
 use Rattle.meaning.proofs.Rising.{Has, has-++, has-left, has-right, Next, next-has, next-rises, first-lowest, last-highest, one-before, one-after}
 use Rattle.meaning.proofs.Leaders.{Head, stand-mate, heads-same, groups-rising}
 use Rattle.meaning.proofs.LinkKinds.{in-map, map-in}

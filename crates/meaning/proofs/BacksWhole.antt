@@ -15,7 +15,8 @@ use Rattle.planning.specs.declared.End.{End}
 use Rattle.planning.specs.declared.End.the-variants.{Entry, Exit}
 use Rattle.planning.specs.Groups.{same-part}
 use Rattle.planning.specs.Backs.{Ground, count, stand, groups-of, backs-among, back-link, closing, first-of, last-of, wants-backs}
-use Rattle.meaning.proofs.Mates.{Known, Linked, linked-goes, Joined, joined-goes, part-joined, own-mate}
+use Rattle.meaning.proofs.Known.{Known}
+use Rattle.meaning.proofs.Mates.{Linked, linked-goes, Joined, joined-goes, part-joined, own-mate}
 use Rattle.meaning.proofs.Rising.{Has, has-counting, Next}
 use Rattle.meaning.proofs.Leaders.{stand-under, stand-mate, groups-head, head-groups}
 use Rattle.meaning.proofs.LinkKinds.{map-in, Kind, kind-part, back-backs}

@@ -14,7 +14,8 @@ use Rattle.planning.specs.declared.End.{End}
 use Rattle.planning.specs.declared.End.the-variants.{Entry, Exit}
 use Rattle.planning.specs.Groups.{reaches}
 use Rattle.planning.specs.Backs.{Ground, count}
-use Rattle.meaning.proofs.Mates.{Known, Way, way-goes, way-mates, Last, Joined, joined-turn, joined-goes, linked-joined, own-mate, reaches-linked, linked-reaches, cases-last, last-mate, low, low-under, low-mate, low-opens}
+use Rattle.meaning.proofs.Known.{Known}
+use Rattle.meaning.proofs.Mates.{Way, way-goes, way-mates, Last, Joined, joined-turn, joined-goes, linked-joined, own-mate, reaches-linked, linked-reaches, cases-last, last-mate, low, low-under, low-mate, low-opens}
 use Rattle.meaning.proofs.Leaders.{Head}
 
 pub way-joined : (es : List Edge) (end : End) (u v : ℕ) → Way es end u v → Joined es u v

@@ -19,10 +19,11 @@ use Rattle.planning.specs.Marks.{local, redundant, mark-link, marked, numbered,
 use Rattle.planning.specs.Costs.{cost-before, cost-after, link-cost-after}
 use Rattle.planning.specs.Backs.{Ground, backs-among, backs}
 use Rattle.planning.specs.Planning.{Given, base-edges, ground, back-links, all-links, plan-delays, plan-links, plan-totals}
-use Rattle.meaning.proofs.Grounds.{Grounded, group}
+use Rattle.meaning.proofs.Known.{Known, given-known}
+use Rattle.meaning.proofs.Grounds.{group}
 use Rattle.meaning.proofs.Reaching.{Small}
 use Rattle.meaning.proofs.Merging.{Covered, between-groups, backs-between}
-use Rattle.meaning.proofs.Grounding.{drawing-covered, drawing-grounded}
+use Rattle.meaning.proofs.Grounding.{drawing-covered}
 
 -- ms has a link for each of ls, one after the other, and mark 2 where that of ls stays on its processor
 abbrev pub Local-marked : List Actor → List Link → List Link → Type 0
@@ -61,7 +62,7 @@ given-cost g (l ∷ ls) (m ∷ ms) h =
       (cases-bool (group g (l .sender) (l .receiver))))
     (cases-bool (local (g .actors) (link-edge l)))
 
-module _ (g : Ground) (es : List Edge) (grounded : Grounded g es) (ls : List Link) (covered : Covered g es ls) where
+module _ (g : Ground) (es : List Edge) (known : Known g es) (ls : List Link) (covered : Covered g es ls) where
   abbrev n : ℕ
   n = length (g .actors)
 
@@ -69,7 +70,7 @@ module _ (g : Ground) (es : List Edge) (grounded : Grounded g es) (ls : List Lin
   pub cost-no-more : (lead : ℕ) (ms bs : List Link) → Local-marked (g .actors) ls ms → length bs ≤ length (backs-among g lead (counting 0 n))
       → cost-after (ms ++ bs) ≤ cost-before (g .actors) n (g .delays) ls
   cost-no-more lead ms bs h few =
-      omega (arith, cost-after-++ ms bs, cost-after-most bs, given-cost g ls ms h, backs-between g es grounded ls covered lead)
+      omega (arith, cost-after-++ ms bs, cost-after-most bs, given-cost g ls ms h, backs-between g es known ls covered lead)
 
   length-backs : (lead : ℕ) → length (backs g lead) ≤ length (backs-among g lead (counting 0 n))
   unfolding backs
@@ -97,5 +98,5 @@ plan-costs-no-more d small =
     let ls = take (d .given) (d .links) in
     let ms = marked (d .actors) (map link-edge (all-links d)) ls in
     omega (arith, cost-after-sized (length (d .actors)) (plan-delays d) (ms ++ back-links d),
-      cost-with-backs (ground d) (base-edges d) (drawing-grounded d small) ls (drawing-covered (ground d) ls) (d .lead) ms
+      cost-with-backs (ground d) (base-edges d) (given-known d small) ls (drawing-covered (ground d) ls) (d .lead) ms
         (marked-local (d .actors) (map link-edge (all-links d)) 0 ls))

@@ -13,7 +13,8 @@ use Rattle.planning.specs.declared.End.{End}
 use Rattle.planning.specs.declared.End.the-variants.{Entry, Exit}
 use Rattle.planning.specs.Groups.{reaches, answered, end-group}
 use Rattle.planning.specs.Backs.{Ground}
-use Rattle.meaning.proofs.Grounds.{Grounded, reach, group, reach-itself, reach-through, group-there, group-back}
+use Rattle.meaning.proofs.Known.{Known}
+use Rattle.meaning.proofs.Grounds.{reach, group, reach-itself, reach-through, group-there, group-back}
 use Rattle.meaning.proofs.Tallies.{all-passes, one-fails, passes-all, count-less, count-some}
 
 -- an answered path has a path back
@@ -60,34 +61,34 @@ module _ (g : Ground) where
       let two = or-parts (not (reach g (r .0) u)) (reach g u (r .0)) (r .2) in
       (r .0, r .1, not-false (reach g (r .0) u) (two .0), two .1)
 
-module _ (g : Ground) (es : List Edge) (grounded : Grounded g es) where
+module _ (g : Ground) (es : List Edge) (known : Known g es) where
   abbrev m : ℕ
   m = length (g .actors)
 
   exit-within : (k u : ℕ) → u < m → count (λ w. reach g u w) m ≤ k → (x : ℕ) × (x < m) × (reach g u x ≡ true) × (end-group Exit m (g .delays) x ≡ true)
-  exit-within zero u h few = absurd (omega (arith, count-some (λ w. reach g u w) m u h (reach-itself g es grounded u h)))
+  exit-within zero u h few = absurd (omega (arith, count-some (λ w. reach g u w) m u h (reach-itself g es known u h)))
   exit-within (suc k) u h few =
       ⊎-elim
-      (λ (t : end-group Exit m (g .delays) u ≡ true). (u, h, reach-itself g es grounded u h, t))
+      (λ (t : end-group Exit m (g .delays) u ≡ true). (u, h, reach-itself g es known u h, t))
       (λ (f : end-group Exit m (g .delays) u ≡ false).
         let o = not-exit g u f in
         let w = o .0 in
-        let fewer = count-less (λ x. reach g w x) (λ x. reach g u x) m (λ x l r. reach-through g es grounded u w x h (o .1) l (o .2) r) u h (o .3) (reach-itself g es grounded u h) in
+        let fewer = count-less (λ x. reach g w x) (λ x. reach g u x) m (λ x l r. reach-through g es known u w x h (o .1) l (o .2) r) u h (o .3) (reach-itself g es known u h) in
         let r = exit-within k w (o .1) (omega arith) in
-        (r .0, r .1, reach-through g es grounded u w (r .0) h (o .1) (r .1) (o .2) (r .2), r .3))
+        (r .0, r .1, reach-through g es known u w (r .0) h (o .1) (r .1) (o .2) (r .2), r .3))
       (cases-bool (end-group Exit m (g .delays) u))
 
   entry-within : (k u : ℕ) → u < m → count (λ w. reach g w u) m ≤ k → (x : ℕ) × (x < m) × (reach g x u ≡ true) × (end-group Entry m (g .delays) x ≡ true)
-  entry-within zero u h few = absurd (omega (arith, count-some (λ w. reach g w u) m u h (reach-itself g es grounded u h)))
+  entry-within zero u h few = absurd (omega (arith, count-some (λ w. reach g w u) m u h (reach-itself g es known u h)))
   entry-within (suc k) u h few =
       ⊎-elim
-      (λ (t : end-group Entry m (g .delays) u ≡ true). (u, h, reach-itself g es grounded u h, t))
+      (λ (t : end-group Entry m (g .delays) u ≡ true). (u, h, reach-itself g es known u h, t))
       (λ (f : end-group Entry m (g .delays) u ≡ false).
         let o = not-entry g u f in
         let w = o .0 in
-        let fewer = count-less (λ x. reach g x w) (λ x. reach g x u) m (λ x l r. reach-through g es grounded x w u l (o .1) h r (o .2)) u h (o .3) (reach-itself g es grounded u h) in
+        let fewer = count-less (λ x. reach g x w) (λ x. reach g x u) m (λ x l r. reach-through g es known x w u l (o .1) h r (o .2)) u h (o .3) (reach-itself g es known u h) in
         let r = entry-within k w (o .1) (omega arith) in
-        (r .0, r .1, reach-through g es grounded (r .0) w u (r .1) (o .1) h (r .2) (o .2), r .3))
+        (r .0, r .1, reach-through g es known (r .0) w u (r .1) (o .1) h (r .2) (o .2), r .3))
       (cases-bool (end-group Entry m (g .delays) u))
 
   -- some exit group is reached from u
@@ -103,8 +104,8 @@ module _ (g : Ground) (es : List Edge) (grounded : Grounded g es) where
   end-group-same Exit u v hu hv s t =
       let there = group-there g u v s in
       let back = group-back g u v s in
-      exit-from g v (λ w h r. reach-through g es grounded w u v h hu hv (exit-back g u t w h (reach-through g es grounded u v w hu hv h there r)) there)
+      exit-from g v (λ w h r. reach-through g es known w u v h hu hv (exit-back g u t w h (reach-through g es known u v w hu hv h there r)) there)
   end-group-same Entry u v hu hv s t =
       let there = group-there g u v s in
       let back = group-back g u v s in
-      entry-from g v (λ w h r. reach-through g es grounded v u w hv hu h back (entry-back g u t w h (reach-through g es grounded w v u h hv hu r back)))
+      entry-from g v (λ w h r. reach-through g es known v u w hv hu h back (entry-back g u t w h (reach-through g es known w v u h hv hu r back)))

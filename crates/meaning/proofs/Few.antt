@@ -15,7 +15,8 @@ use Rattle.waits.specs.Counting.{count}
 use Rattle.records.specs.Tables.{processor-of}
 use Rattle.planning.specs.Groups.{opens-group, opens-part, one-group}
 use Rattle.planning.specs.Backs.{Ground, part-backs, wants-backs, backs-among, backs}
-use Rattle.meaning.proofs.Grounds.{Grounded, part, part-itself}
+use Rattle.meaning.proofs.Known.{Known}
+use Rattle.meaning.proofs.Grounds.{part, part-itself}
 use Rattle.meaning.proofs.Openers.{opener, opener-equal, opens-opener, parts-classes, opens-part-is, opens-both, openers-few}
 use Rattle.meaning.proofs.Heads.{part-backs-fewer}
 use Rattle.meaning.proofs.Tallies.{count-from, count-from-start, count-some, count-le, count-both, count-at-most}
@@ -27,7 +28,7 @@ groups g = count (λ u. opens-group (length (g .actors)) (g .delays) u) (length 
 abbrev pub parts : Ground → ℕ
 parts g = count (λ u. opens-part (length (g .actors)) (g .joined) u) (length (g .actors))
 
-module _ (g : Ground) (es : List Edge) (grounded : Grounded g es) where
+module _ (g : Ground) (es : List Edge) (known : Known g es) where
   abbrev n : ℕ
   n = length (g .actors)
 
@@ -40,7 +41,7 @@ module _ (g : Ground) (es : List Edge) (grounded : Grounded g es) where
 
   front-is : (p u : ℕ) → p < n → u < n → opens-part n (g .joined) p ≡ true → part g p u ≡ true → front u ≡ p
   front-is p u hp hu o s =
-      let classes = parts-classes g es grounded in
+      let classes = parts-classes g es known in
       sym (opener-equal n (part g) classes p u hp hu s) ∙ opens-opener n (part g) classes p hp (sym (opens-part-is g p) ∙ o)
 
   -- of the part whose lowest actor is p
@@ -52,9 +53,9 @@ module _ (g : Ground) (es : List Edge) (grounded : Grounded g es) where
         ⊎-elim
         (λ (one : one-group n (g .delays) (g .joined) p ≡ true).
           rw (o, one) (omega (arith, count-some (λ u. first u && eqb (front u) p) n p h
-            (and-from (first p) (eqb (front p) p) (opens-both g es grounded p h o) (eq-eqb (front p) p (front-is p p h h o (part-itself g es grounded p h)))))))
+            (and-from (first p) (eqb (front p) p) (opens-both g es known p h o) (eq-eqb (front p) p (front-is p p h h o (part-itself g es known p h)))))))
         (λ (several : one-group n (g .delays) (g .joined) p ≡ false).
-          rw (o, several) (omega (arith, part-backs-fewer g es grounded lead p h several,
+          rw (o, several) (omega (arith, part-backs-fewer g es known lead p h several,
             count-le (λ u. part g p u && first u) (λ u. first u && eqb (front u) p) n (λ u hu t.
               let two = and-parts (part g p u) (first u) t in
               and-from (first u) (eqb (front u) p) (two .1) (eq-eqb (front u) p (front-is p u h hu o (two .0)))))))
@@ -89,7 +90,7 @@ module _ (g : Ground) (es : List Edge) (grounded : Grounded g es) where
   -- there are at most 15 back links
   pub few-backs : ((u : ℕ) → u < n → processor-of (g .actors) u < 16) → (lead : ℕ) → length (backs-among g lead (counting 0 n)) ≤ 15
   few-backs low lead =
-      let most = openers-few g es grounded 16 low in
+      let most = openers-few g es known 16 low in
       let sum = backs-groups lead in
       ⊎-elim
       (λ (l : 0 < n). omega (arith, some-part l))

@@ -13,6 +13,7 @@ use Rattle.waits.proofs.Paths.{path-joined}
 use Rattle.planning.specs.Tables.{least-delays, parts}
 use Rattle.planning.specs.Groups.{reaches, same-group, same-part}
 use Rattle.planning.specs.Backs.{Ground}
+use Rattle.meaning.proofs.Known.{Known}
 use Rattle.meaning.proofs.Laid.{both-ways}
 use Rattle.meaning.proofs.Delays.{least}
 use Rattle.meaning.proofs.Reaching.{Small, reaches-path, path-reaches}
@@ -26,13 +27,6 @@ group g u v = same-group (length (g .actors)) (g .delays) u v
 
 abbrev pub part : Ground → ℕ → ℕ → Bool
 part g u v = same-part (length (g .actors)) (g .joined) u v
-
--- the tables of g are those of the edges es, which lead round each processor
-pub record Grounded (g : Ground) (es : List Edge) : Type 0 where
-  pub small : Small (length (g .actors)) es
-  pub delays-are : g .delays ≡ least-delays (length (g .actors)) es
-  pub joined-are : g .joined ≡ parts (length (g .actors)) es
-  pub round : (u v : ℕ) → u < length (g .actors) → v < length (g .actors) → processor-of (g .actors) u ≡ processor-of (g .actors) v → Path es u v 1
 
 -- an edge one way or the other
 either-way : (es : List Edge) (u v d : ℕ) → In (edge u v d) (both-ways es) → (c : ℕ) × (In (edge u v c) es ⊎ In (edge v u c) es)
@@ -89,25 +83,25 @@ module _ (g : Ground) where
   pub group-flip : (u v : ℕ) → group g u v ≡ true → group g v u ≡ true
   group-flip u v a = group-from v u (group-back u v a) (group-there u v a)
 
-module _ (g : Ground) (es : List Edge) (grounded : Grounded g es) where
+module _ (g : Ground) (es : List Edge) (known : Known g es) where
   abbrev n : ℕ
   n = length (g .actors)
 
   pub reach-path : (u v : ℕ) → u < n → v < n → reach g u v ≡ true → (t : ℕ) × Path es u v t
   reach-path u v hu hv r =
-      (least n es (grounded .small .within) u v, reaches-path n es (grounded .small) u v hu hv (subst (λ x. reaches n x u v ≡ true) (grounded .delays-are) r))
+      (least n es (known .small .within) u v, reaches-path n es (known .small) u v hu hv (subst (λ x. reaches n x u v ≡ true) (known .delays) r))
 
   pub path-reach : (u v : ℕ) → u < n → v < n → {t : ℕ} → Path es u v t → reach g u v ≡ true
-  path-reach u v hu hv p = subst (λ x. reaches n x u v ≡ true) (sym (grounded .delays-are)) (path-reaches n es (grounded .small) u v hu hv p)
+  path-reach u v hu hv p = subst (λ x. reaches n x u v ≡ true) (sym (known .delays)) (path-reaches n es (known .small) u v hu hv p)
 
   pub part-path : (u v : ℕ) → u < n → v < n → part g u v ≡ true → Path (both-ways es) u v 0
-  part-path u v hu hv r = joined-path n es (grounded .small .within) u v hu hv (subst (λ x. same-part n x u v ≡ true) (grounded .joined-are) r)
+  part-path u v hu hv r = joined-path n es (known .small .within) u v hu hv (subst (λ x. same-part n x u v ≡ true) (known .joined) r)
 
   pub path-part : (u v : ℕ) → u < n → v < n → Path (both-ways es) u v 0 → part g u v ≡ true
-  path-part u v hu hv p = subst (λ x. same-part n x u v ≡ true) (sym (grounded .joined-are)) (path-joined-part n es (grounded .small .within) u v hu hv p)
+  path-part u v hu hv p = subst (λ x. same-part n x u v ≡ true) (sym (known .joined)) (path-joined-part n es (known .small .within) u v hu hv p)
 
   pub reach-itself : (u : ℕ) → u < n → reach g u u ≡ true
-  reach-itself u h = path-reach u u h h (grounded .round u u h h refl)
+  reach-itself u h = path-reach u u h h (known .turns u u h h refl)
 
   pub reach-through : (u w v : ℕ) → u < n → w < n → v < n → reach g u w ≡ true → reach g w v ≡ true → reach g u v ≡ true
   reach-through u w v hu hw hv a b = path-reach u v hu hv (path-joined (reach-path u w hu hw a .1) (reach-path w v hw hv b .1))
@@ -121,7 +115,7 @@ module _ (g : Ground) (es : List Edge) (grounded : Grounded g es) where
 
   -- one processor, one group
   pub group-round : (u v : ℕ) → u < n → v < n → processor-of (g .actors) u ≡ processor-of (g .actors) v → group g u v ≡ true
-  group-round u v hu hv e = group-from g u v (path-reach u v hu hv (grounded .round u v hu hv e)) (path-reach v u hv hu (grounded .round v u hv hu (sym e)))
+  group-round u v hu hv e = group-from g u v (path-reach u v hu hv (known .turns u v hu hv e)) (path-reach v u hv hu (known .turns v u hv hu (sym e)))
 
   pub reach-part : (u v : ℕ) → u < n → v < n → reach g u v ≡ true → part g u v ≡ true
   reach-part u v hu hv r = path-part u v hu hv (loose (reach-path u v hu hv r .1))
@@ -141,4 +135,4 @@ module _ (g : Ground) (es : List Edge) (grounded : Grounded g es) where
   part-hands C hand u v hu hv r c = handed-on es C hand (part-path u v hu hv r) c
 
   pub edge-reach : (u v d : ℕ) → In (edge u v d) es → (u < n) × (v < n) × (reach g u v ≡ true)
-  edge-reach u v d i = let ends = grounded .small .within (edge u v d) i in (ends .0, ends .1, path-reach u v (ends .0) (ends .1) (last i))
+  edge-reach u v d i = let ends = known .small .within (edge u v d) i in (ends .0, ends .1, path-reach u v (ends .0) (ends .1) (last i))

@@ -17,7 +17,8 @@ use Rattle.planning.specs.declared.End.{End}
 use Rattle.planning.specs.declared.End.the-variants.{Entry, Exit}
 use Rattle.planning.specs.Groups.{opens-group, end-group, one-group, grouped-if-joined}
 use Rattle.planning.specs.Backs.{Ground, heads, heads-among, groups-of, chain, closing, part-backs}
-use Rattle.meaning.proofs.Grounds.{Grounded, group, part, group-from, group-there, group-back, group-itself, group-flip, group-through, reach-through, reach-part, part-flip, part-through, part-hands, edge-reach}
+use Rattle.meaning.proofs.Known.{Known}
+use Rattle.meaning.proofs.Grounds.{group, part, group-from, group-there, group-back, group-itself, group-flip, group-through, reach-through, reach-part, part-flip, part-through, part-hands, edge-reach}
 use Rattle.meaning.proofs.Extremes.{exit-back, entry-back, exit-reached, entry-reaches, end-group-same}
 use Rattle.meaning.proofs.Openers.{opener, opener-is, opener-opens, groups-classes, opens-group-is}
 use Rattle.meaning.proofs.Tallies.{passes-all, count-from, count-from-start, count-some, count-both}
@@ -75,25 +76,25 @@ module _ (g : Ground) where
       let rest = and-parts (opens-group n (g .delays) u) (end-group end n (g .delays) u) (two .1) in
       record { within = two .0; opening = rest .0; ending = rest .1 }
 
-module _ (g : Ground) (es : List Edge) (grounded : Grounded g es) where
+module _ (g : Ground) (es : List Edge) (known : Known g es) where
   abbrev m : ℕ
   m = length (g .actors)
 
   -- a group that is both entry and exit is a whole part
   pub whole : (u : ℕ) → u < m → end-group Entry m (g .delays) u ≡ true → end-group Exit m (g .delays) u ≡ true
       → (v : ℕ) → v < m → part g u v ≡ true → group g u v ≡ true
-  whole u h enters leaves v hv s = part-hands g es grounded (λ x. group g u x ≡ true) hand u v h hv s (group-itself g es grounded u h)
+  whole u h enters leaves v hv s = part-hands g es known (λ x. group g u x ≡ true) hand u v h hv s (group-itself g es known u h)
     where
       hand : (x y d : ℕ) → In (edge x y d) es ⊎ In (edge y x d) es → group g u x ≡ true → group g u y ≡ true
       hand x y d i c =
           ⊎-elim
           (λ (j : In (edge x y d) es).
-            let r = edge-reach g es grounded x y d j in
-            let there = reach-through g es grounded u x y h (r .0) (r .1) (group-there g u x c) (r .2) in
+            let r = edge-reach g es known x y d j in
+            let there = reach-through g es known u x y h (r .0) (r .1) (group-there g u x c) (r .2) in
             group-from g u y there (exit-back g u leaves y (r .1) there))
           (λ (j : In (edge y x d) es).
-            let r = edge-reach g es grounded y x d j in
-            let back = reach-through g es grounded y x u (r .0) (r .1) h (r .2) (group-back g u x c) in
+            let r = edge-reach g es known y x d j in
+            let back = reach-through g es known y x u (r .0) (r .1) h (r .2) (group-back g u x c) in
             group-from g u y (entry-back g u enters y (r .0) back) back)
           i
 
@@ -109,36 +110,36 @@ module _ (g : Ground) (es : List Edge) (grounded : Grounded g es) where
         (cases-bool (part g p w))))
     where
       back : part g u p ≡ true
-      back = part-flip g es grounded p u hp hu (heads-parts g Entry p u a .within)
+      back = part-flip g es known p u hp hu (heads-parts g Entry p u a .within)
       all : (w : ℕ) → w < m → part g u w ≡ true → group g u w ≡ true
       all = whole u hu (heads-parts g Entry p u a .ending) (heads-parts g Exit p u b .ending)
       joins : (w : ℕ) → w < m → part g p w ≡ true → group g p w ≡ true
       joins w hw s =
-          group-through g es grounded p u w hp hu hw (group-flip g u p (all p hp back)) (all w hw (part-through g es grounded u p w hu hp hw back s))
+          group-through g es known p u w hp hu hw (group-flip g u p (all p hp back)) (all w hw (part-through g es known u p w hu hp hw back s))
 
   -- the group of x, an end in the part of p, has its head
   pub heads-some : (end : End) (p x : ℕ) → p < m → x < m → part g p x ≡ true → end-group end m (g .delays) x ≡ true → heads g end p (opener m (group g) x) ≡ true
   heads-some end p x hp hx s t =
-      let a = opener-is m (group g) (groups-classes g es grounded) x hx in
+      let a = opener-is m (group g) (groups-classes g es known) x hx in
       let o = opener m (group g) x in
       heads-from g end p o
-      (part-through g es grounded p x o hp hx (a .below) s (reach-part g es grounded x o hx (a .below) (group-there g x o (a .passes))))
-      (opens-group-is g o ∙ opener-opens m (group g) (groups-classes g es grounded) x hx)
-      (end-group-same g es grounded end x o hx (a .below) (a .passes) t)
+      (part-through g es known p x o hp hx (a .below) s (reach-part g es known x o hx (a .below) (group-there g x o (a .passes))))
+      (opens-group-is g o ∙ opener-opens m (group g) (groups-classes g es known) x hx)
+      (end-group-same g es known end x o hx (a .below) (a .passes) t)
 
   pub some-entry : (p : ℕ) → p < m → 1 ≤ count (heads g Entry p) m
   some-entry p h =
-      let r = entry-reaches g es grounded p h in
-      let a = opener-is m (group g) (groups-classes g es grounded) (r .0) (r .1) in
+      let r = entry-reaches g es known p h in
+      let a = opener-is m (group g) (groups-classes g es known) (r .0) (r .1) in
       count-some (heads g Entry p) m (opener m (group g) (r .0)) (a .below)
-      (heads-some Entry p (r .0) h (r .1) (part-flip g es grounded (r .0) p (r .1) h (reach-part g es grounded (r .0) p (r .1) h (r .2))) (r .3))
+      (heads-some Entry p (r .0) h (r .1) (part-flip g es known (r .0) p (r .1) h (reach-part g es known (r .0) p (r .1) h (r .2))) (r .3))
 
   pub some-exit : (p : ℕ) → p < m → 1 ≤ count (heads g Exit p) m
   some-exit p h =
-      let r = exit-reached g es grounded p h in
-      let a = opener-is m (group g) (groups-classes g es grounded) (r .0) (r .1) in
+      let r = exit-reached g es known p h in
+      let a = opener-is m (group g) (groups-classes g es known) (r .0) (r .1) in
       count-some (heads g Exit p) m (opener m (group g) (r .0)) (a .below)
-      (heads-some Exit p (r .0) h (r .1) (reach-part g es grounded p (r .0) h (r .1) (r .2)) (r .3))
+      (heads-some Exit p (r .0) h (r .1) (reach-part g es known p (r .0) h (r .1) (r .2)) (r .3))
 
   -- a part of several groups has fewer back links than groups
   pub part-backs-fewer : (lead p : ℕ) → p < m → one-group m (g .delays) (g .joined) p ≡ false

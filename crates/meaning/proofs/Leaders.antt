@@ -14,7 +14,8 @@ use Rattle.records.specs.Tables.{no-actor}
 use Rattle.planning.specs.declared.End.{End}
 use Rattle.planning.specs.Groups.{same-group, same-part, end-group, opens-group, stands-better, stand-below, stand-in}
 use Rattle.planning.specs.Backs.{Ground, count, heads, heads-among, groups-of, stand}
-use Rattle.meaning.proofs.Mates.{Known, Mates, Last, Joined, own-mate, group-mates, part-joined, joined-part, end-last, last-end, last-mate, low, low-same, opens-low, Opens, opens-lowest, lowest-opens}
+use Rattle.meaning.proofs.Known.{Known}
+use Rattle.meaning.proofs.Mates.{Mates, Last, Joined, own-mate, group-mates, part-joined, joined-part, end-last, last-end, last-mate, low, low-same, opens-low, Opens, opens-lowest, lowest-opens}
 use Rattle.meaning.proofs.Rising.{Has, Rising, rising-from, has-counting, counting-has}
 
 -- u is the lowest actor of an entry or exit group in the part of p

@@ -21,6 +21,7 @@ pub mod Fewest
 pub mod Enforcing
 pub mod Locals
 pub mod FinalMarks
+pub mod Known
 pub mod Grounds
 pub mod Tallies
 pub mod Extremes
@@ -44,7 +45,6 @@ pub mod BacksWhole
 pub mod Distinct
 pub mod Told
 pub mod BacksNeeded
-pub mod GivenGround
 pub mod Joins
 pub mod Groups
 pub mod EndGroups

@@ -15,18 +15,12 @@ use Rattle.planning.specs.declared.End.the-variants.{Entry, Exit}
 use Rattle.planning.specs.Groups.{reaches, same-group, same-part, answered, end-group, opens-group}
 use Rattle.planning.specs.Tables.{least-delays, parts}
 use Rattle.planning.specs.Backs.{Ground, count}
+use Rattle.meaning.proofs.Known.{Known}
 use Rattle.meaning.proofs.Laid
 use Rattle.meaning.proofs.Delays.{least}
 use Rattle.meaning.proofs.Reaching.{Small, reaches-path, path-reaches}
 use Rattle.meaning.proofs.Joining.{joined-path, path-joined-part}
 use Rattle.meaning.proofs.Firsts.{all-below-at, all-below-from, all-below-fails, first, first-passes, first-under, first-low}
-
--- the tables of the ground are those of es, and es has the turns of the processors
-pub record Known (g : Ground) (es : List Edge) : Type 0 where
-  pub small : Small (count g) es
-  pub delays : g .delays ≡ least-delays (count g) es
-  pub joined : g .joined ≡ parts (count g) es
-  pub turns : (u v : ℕ) → u < count g → v < count g → processor-of (g .actors) u ≡ processor-of (g .actors) v → Path es u v 1
 
 -- some path leads from u to v
 abbrev pub Linked : List Edge → ℕ → ℕ → Type 0

@@ -17,7 +17,8 @@ use Rattle.waits.specs.Events.{In}
 use Rattle.planning.specs.Groups.{opens-group, opens-part}
 use Rattle.planning.specs.Marks.{local}
 use Rattle.planning.specs.Backs.{Ground, backs-among}
-use Rattle.meaning.proofs.Grounds.{Grounded, group, part, group-round, part-hands}
+use Rattle.meaning.proofs.Known.{Known}
+use Rattle.meaning.proofs.Grounds.{group, part, group-round, part-hands}
 use Rattle.meaning.proofs.Openers.{opener, opener-is, opener-equal, opener-opens, opens-opener, groups-classes, parts-classes, opens-group-is, opens-part-is}
 use Rattle.meaning.proofs.Few.{groups, parts, backs-groups}
 use Rattle.meaning.proofs.Tallies.{count-le, count-but-one, count-images}
@@ -83,7 +84,7 @@ merge-loses-none c a b n same = count-le (names c) (names (merge c a b)) n (λ i
       (λ (f : eqb (c i) (c a) ≡ false). cond-false (eqb (c i) (c a)) (c b) (c i) f ∙ e)
       (cases-bool (eqb (c i) (c a)))))
 
-module _ (g : Ground) (es : List Edge) (grounded : Grounded g es) where
+module _ (g : Ground) (es : List Edge) (known : Known g es) where
   abbrev n : ℕ
   n = length (g .actors)
 
@@ -94,11 +95,11 @@ module _ (g : Ground) (es : List Edge) (grounded : Grounded g es) where
   merged-loses (l ∷ ls) given c whole =
       let a = l .sender in
       let b = l .receiver in
-      let ends = grounded .small .within (link-edge l) (given (link-edge l) (inl refl)) in
+      let ends = known .small .within (link-edge l) (given (link-edge l) (inl refl)) in
       let rest = merged-loses ls (λ e i. given e (inr i)) (merge c a b) (λ x y hx hy s. merge-keeps c a b x y (whole x y hx hy s)) in
       ⊎-elim
       (λ (t : local (g .actors) (link-edge l) ≡ true).
-        let s = group-round g es grounded a b (ends .0) (ends .1) (eqb-true (processor-of (g .actors) a) (processor-of (g .actors) b) t) in
+        let s = group-round g es known a b (ends .0) (ends .1) (eqb-true (processor-of (g .actors) a) (processor-of (g .actors) b) t) in
         rw t (omega (arith, merge-loses-none c a b n (whole a b (ends .0) (ends .1) s))))
       (λ (f : local (g .actors) (link-edge l) ≡ false).
         ⊎-elim
@@ -116,30 +117,30 @@ module _ (g : Ground) (es : List Edge) (grounded : Grounded g es) where
     final u = merged first ls u
 
     first-same : (x y : ℕ) → x < n → y < n → group g x y ≡ true → first x ≡ first y
-    first-same x y hx hy s = opener-equal n (group g) (groups-classes g es grounded) x y hx hy s
+    first-same x y hx hy s = opener-equal n (group g) (groups-classes g es known) x y hx hy s
 
     edge-same : (x y d : ℕ) → In (edge x y d) es → final x ≡ final y
     edge-same x y d i =
-        let ends = grounded .small .within (edge x y d) i in
+        let ends = known .small .within (edge x y d) i in
         ⊎-elim
         (λ (e : processor-of (g .actors) x ≡ processor-of (g .actors) y).
-          merged-keeps first ls x y (first-same x y (ends .0) (ends .1) (group-round g es grounded x y (ends .0) (ends .1) e)))
+          merged-keeps first ls x y (first-same x y (ends .0) (ends .1) (group-round g es known x y (ends .0) (ends .1) e)))
         (λ (j : In (edge x y d) (map link-edge ls)). merged-joins first ls x y d j)
         (covered .turn-or-link (edge x y d) i)
 
     final-same : (u v : ℕ) → u < n → v < n → part g u v ≡ true → final u ≡ final v
     final-same u v hu hv s =
-        part-hands g es grounded (λ x. final u ≡ final x)
+        part-hands g es known (λ x. final u ≡ final x)
         (λ x y d i c. c ∙ ⊎-elim (λ (j : In (edge x y d) es). edge-same x y d j) (λ (j : In (edge y x d) es). sym (edge-same y x d j)) i)
         u v hu hv s refl
 
     groups-named : groups g ≤ count (names first) n
     groups-named = count-le (λ u. opens-group n (g .delays) u) (names first) n (λ u h t.
-        eq-eqb (first u) u (opens-opener n (group g) (groups-classes g es grounded) u h (sym (opens-group-is g u) ∙ t)))
+        eq-eqb (first u) u (opens-opener n (group g) (groups-classes g es known) u h (sym (opens-group-is g u) ∙ t)))
 
     named-parts : count (names final) n ≤ parts g
     named-parts = count-images (names final) (λ u. opens-part n (g .joined) u) final n n (λ e h t.
-        let classes = parts-classes g es grounded in
+        let classes = parts-classes g es known in
         let o = opener-is n (part g) classes e h in
         let j = opener n (part g) e in
         (j, o .below, opens-part-is g j ∙ opener-opens n (part g) classes e h,
@@ -151,4 +152,4 @@ module _ (g : Ground) (es : List Edge) (grounded : Grounded g es) where
 
     -- back links are no more than the links between groups
     pub backs-between : (lead : ℕ) → length (backs-among g lead (counting 0 n)) ≤ between-groups g ls
-    backs-between lead = omega (arith, groups-parts, backs-groups g es grounded lead)
+    backs-between lead = omega (arith, groups-parts, backs-groups g es known lead)

@@ -14,7 +14,8 @@ use Rattle.waits.proofs.Counting.{counting}
 use Rattle.records.specs.Tables.{processor-of}
 use Rattle.planning.specs.Groups.{all-below, opens-group, opens-part}
 use Rattle.planning.specs.Backs.{Ground}
-use Rattle.meaning.proofs.Grounds.{Grounded, group, part, group-itself, group-flip, group-through, group-round, part-itself, part-flip, part-through, reach-part, group-there}
+use Rattle.meaning.proofs.Known.{Known}
+use Rattle.meaning.proofs.Grounds.{group, part, group-itself, group-flip, group-through, group-round, part-itself, part-flip, part-through, reach-part, group-there}
 use Rattle.meaning.proofs.Tallies.{all-passes, passes-all, lowest, Lowest, lowest-found}
 
 -- a division of the numbers below n into classes
@@ -75,22 +76,22 @@ module _ (g : Ground) where
   unfolding opens-part
   opens-part-is u = refl
 
-module _ (g : Ground) (es : List Edge) (grounded : Grounded g es) where
+module _ (g : Ground) (es : List Edge) (known : Known g es) where
   abbrev n : ℕ
   n = length (g .actors)
 
   pub groups-classes : Classes n (group g)
   groups-classes = record {
-    itself = group-itself g es grounded;
+    itself = group-itself g es known;
     flip = λ u v hu hv s. group-flip g u v s;
-    through = group-through g es grounded;
+    through = group-through g es known;
   }
 
   pub parts-classes : Classes n (part g)
   parts-classes = record {
-    itself = part-itself g es grounded;
-    flip = part-flip g es grounded;
-    through = part-through g es grounded;
+    itself = part-itself g es known;
+    flip = part-flip g es known;
+    through = part-through g es known;
   }
 
   -- who opens a part opens a group
@@ -101,7 +102,7 @@ module _ (g : Ground) (es : List Edge) (grounded : Grounded g es) where
         (λ (s : group g u w ≡ true).
           let hw : w < n = omega arith in
           let f = not-true (part g u w) (all-passes (λ w. not (part g u w)) u (sym (opens-part-is g u) ∙ t) w l) in
-          absurd (both-ways (part g u w) f (reach-part g es grounded u w h hw (group-there g u w s))))
+          absurd (both-ways (part g u w) f (reach-part g es known u w h hw (group-there g u w s))))
         (λ (f : group g u w ≡ false). not-from-false (group g u w) f)
         (cases-bool (group g u w)))
 
@@ -119,4 +120,4 @@ module _ (g : Ground) (es : List Edge) (grounded : Grounded g es) where
           let m = lowest (on p) n in
           let two = and-parts (opens-group n (g .delays) m) (eqb (processor-of (g .actors) m) p) (a .passes) in
           opens-once n (group g) groups-classes m e (a .below) h (sym (opens-group-is g m) ∙ two .0) (sym (opens-group-is g e) ∙ t)
-          (group-round g es grounded m e (a .below) h (eqb-true (processor-of (g .actors) m) p (two .1)))
+          (group-round g es known m e (a .below) h (eqb-true (processor-of (g .actors) m) p (two .1)))

@@ -10,7 +10,8 @@ use Rattle.records.specs.declared.tables.Edge.{Edge}
 use Rattle.planning.specs.declared.End.the-variants.{Entry, Exit}
 use Rattle.planning.specs.Groups.{same-group, same-part, opens-part, grouped-if-joined, one-group}
 use Rattle.planning.specs.Backs.{Ground, count, wants-backs}
-use Rattle.meaning.proofs.Mates.{Known, Mates, mates-go, mates-turn, Last, Joined, joined-turn, joined-goes, linked-joined, own-mate, group-mates, mates-group, part-joined, joined-part, lone-group}
+use Rattle.meaning.proofs.Known.{Known}
+use Rattle.meaning.proofs.Mates.{Mates, mates-go, mates-turn, Last, Joined, joined-turn, joined-goes, linked-joined, own-mate, group-mates, mates-group, part-joined, joined-part, lone-group}
 use Rattle.meaning.proofs.Firsts.{all-below-at, all-below-from, all-below-fails, first, first-passes, first-under, first-low}
 
 module _ {g : Ground} {es : List Edge} (known : Known g es) where

@@ -14,7 +14,8 @@ use Rattle.records.specs.Tables.{link-edge}
 use Rattle.planning.specs.declared.End.{End}
 use Rattle.planning.specs.declared.End.the-variants.{Entry, Exit}
 use Rattle.planning.specs.Backs.{Ground, count, stand, groups-of, back-link, chain, closing, first-of, last-of, part-backs, wants-backs, backs-among}
-use Rattle.meaning.proofs.Mates.{Known, Mates, Last, Joined, joined-goes, joined-turn, linked-joined, own-mate}
+use Rattle.meaning.proofs.Known.{Known}
+use Rattle.meaning.proofs.Mates.{Mates, Last, Joined, joined-goes, joined-turn, linked-joined, own-mate}
 use Rattle.meaning.proofs.Rising.{Has, has-++, counting-has, Rising, rising-low, Next, next-has, next-rises, first-has, last-has, first-lowest, last-highest}
 use Rattle.meaning.proofs.Leaders.{Head, stand-mate, heads-same, groups-head, head-groups, groups-rising}
 use Rattle.meaning.proofs.LinkKinds.{Chained, chain-chained, Kind, part-kind, backs-back}
