@@ -2,14 +2,16 @@
 use mathlib.Core.Path.{_≡_, refl, ap, sym, subst, _∙_}
 use mathlib.Core.List.{List, [], _∷_}
 use mathlib.Core.Logic.{_⊎_, ⊎-elim}
-use Prim.Native.Nat.{ℕ, _+_, _*_, _<_, _≤_}
+use Prim.Native.Nat.{ℕ, _+_, _-_, _*_, _<_, _≤_}
 use native.Mathlib.Omega.{arith}
 use lib.ListN.{length, replicate}
 use Rattle.std.proofs.shelf.Lists.{length-replicate}
 use Rattle.records.specs.declared.tables.Edge.{Edge}
 use Rattle.records.specs.Tables.{edge}
 use Rattle.waits.specs.Events.{In, Within, Path, last, step}
+use Rattle.waits.specs.Walks.{Short}
 use Rattle.waits.proofs.Paths.{path-joined}
+use Rattle.waits.proofs.Shorter.{walk-path, path-few}
 use Rattle.paths.specs.Closure.{entry}
 use Rattle.paths.specs.Models.{delay-ops, delay-laws}
 use Rattle.paths.specs.Walks.{walk-value, Below}
@@ -72,3 +74,10 @@ module _ (n : ℕ) (es : List Edge) (within : Within n es) where
       let c = chosen delay-laws (edge-table delay-laws n es) n u v hu hv .attained in
       let e = ap (λ (x : Delay). x .value) (c .2) in
       subst (λ t. Path es u v t) e (of-walk u v (c .0) hu hv (c .1) (omega arith))
+
+  -- and so has a path of at most n edges
+  pub least-short : (u v : ℕ) → u < n → v < n → least u v < 4294967295 → Short es n u v (least u v)
+  least-short u v hu hv small =
+      let (m, l, i) = path-few es n within u v (least u v) (least-attained u v hu hv small) in
+      let e : m ≡ least u v = omega (arith, least-low hu hv (walk-path es (n - 1) u v m i)) in
+      subst (λ t. Short es n u v t) e i

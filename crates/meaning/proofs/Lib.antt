@@ -51,4 +51,5 @@ pub mod EndGroups
 pub mod Picked
 pub mod StandIns
 pub mod BackLinks
+pub mod OneList
 pub mod Meaning

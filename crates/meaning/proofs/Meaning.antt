@@ -28,7 +28,7 @@ use Rattle.meaning.specs.Promises.{given-edges, plan-edges, mark-at, size-at, 
 use Rattle.meaning.proofs.BackEnds.{Fine-link}
 use Rattle.meaning.proofs.Chosen.{in-left, in-right, in-more, in-place, chosen-part}
 use Rattle.meaning.proofs.Covers.{Covers}
-use Rattle.meaning.proofs.Delays.{least, least-low, least-attained}
+use Rattle.meaning.proofs.Delays.{least, least-low, least-short}
 use Rattle.meaning.proofs.Drawn.{passed, link-in}
 use Rattle.meaning.proofs.Dropping.{Spared, dropped-at-once}
 use Rattle.meaning.proofs.Enforcing.{enforced-covered, covered-enforced}
@@ -242,7 +242,7 @@ module _ (d : Given) (ok : tables-check d ≡ Ok tt) (live : Live (edges-with d 
   plan-means = record {
     live = live;
     least = λ u v hu hv. record {
-      attained = least-attained (length (d .actors)) (edges-with d (all-links d)) (all-small d ok .within) u v hu hv;
+      attained = least-short (length (d .actors)) (edges-with d (all-links d)) (all-small d ok .within) u v hu hv;
       smallest = λ t p. (least-low (length (d .actors)) (edges-with d (all-links d)) (all-small d ok .within) hu hv p, least-small (length (d .actors)) (edges-with d (all-links d)) (all-small d ok) u v hu hv p);
     };
     dropped = dropped;

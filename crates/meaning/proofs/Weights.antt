@@ -11,7 +11,7 @@ use Rattle.waits.specs.Counting.{count}
 use Rattle.waits.specs.Events.{In, Within, Live, Path}
 use Rattle.waits.proofs.Counting.{without, without-keeps, count-without, counting}
 use Rattle.waits.proofs.Paths.{path-joined}
-use Rattle.waits.proofs.Shorter.{Stop}
+use Rattle.waits.specs.Walks.{Stop}
 use Rattle.meaning.proofs.Free.{free, free-if-path, path-if-free}
 use Rattle.meaning.proofs.Twins.{same-edge}
 

@@ -1,3 +1,4 @@
 pub mod Choices
 pub mod Components
+pub mod Costing
 pub mod Promises

@@ -2,7 +2,7 @@
 use mathlib.Core.Path.{_≡_}
 use mathlib.Core.Bool.{Bool, _||_}
 use mathlib.Core.List.{List, _++_, map}
-use Prim.Native.Nat.{ℕ, _+_, _≤_, _<_}
+use Prim.Native.Nat.{ℕ, _+_, _*_, _≤_, _<_}
 use lib.Dec.{eqb}
 use lib.ListN.{length, getD, take}
 use Rattle.std.specs.declared.result.Result.{Result}
@@ -15,11 +15,14 @@ use Rattle.records.specs.Tables.{no-link, link-edge, processor-of}
 use Rattle.waits.specs.Counting.{count}
 use Rattle.waits.specs.Drawings.{Follows, Enforced}
 use Rattle.waits.specs.Events.{Event, starts, finishes, Path, Live}
+use Rattle.waits.specs.Walks.{Short}
 use Rattle.paths.specs.Closure.{entry}
 use Rattle.paths.specs.Models.{delay-ops}
 use Rattle.planning.specs.Edges.{orders, without}
-use Rattle.planning.specs.Planning.{Given, Totals, base-edges, edges-with, all-links, back-links, plan-delays, plan-links, tables-check, planned}
+use Rattle.planning.specs.Planning.{Given, Totals, over, base-edges, edges-with, all-links, back-links, plan-delays, plan-links, tables-check, planned}
 use Rattle.meaning.specs.Choices.{place, chosen}
+use Rattle.meaning.specs.Components.{Reaches, Joined, Back-links}
+use Rattle.meaning.specs.Costing.{Costs}
 
 -- the given links of a drawing
 abbrev pub given-edges : Given → List Edge
@@ -72,9 +75,10 @@ Replaced d i =
     let e = place (plan-edges d) i in
     (t : ℕ) × (t ≤ e .delay) × Path (orders (d .actors) ++ without i e 0 (plan-edges d)) (e .sender) (e .receiver) t
 
--- a number that is the smallest total delay over paths from u to v, or 4,294,967,295 where there is none
+-- a number that is the smallest total delay over paths from u to v, and that of a path with at most as many edges as there
+-- are actors; or 4,294,967,295 where there is none
 pub record Least (d : Given) (u v least : ℕ) : Type 0 where
-  pub attained : least < 4294967295 → Path (edges-with d (all-links d)) u v least
+  pub attained : least < 4294967295 → Short (edges-with d (all-links d)) (length (d .actors)) u v least
   pub smallest : (t : ℕ) → Path (edges-with d (all-links d)) u v t → (least ≤ t) × (least ≤ 64000)
 
 -- what the plan of an accepted drawing means
@@ -97,3 +101,34 @@ pub record Plan-means (d : Given) : Type 0 where
   pub can-be-full : (i : ℕ) → Cross d i → (xs : List Event) × Follows (d .actors) (waited-edges d) xs
       × (place (plan-edges d) i .delay + starts (place (plan-edges d) i .sender) xs ≡ finishes (place (plan-edges d) i .receiver) xs + size-at d i)
   pub cells-few : (i : ℕ) → Cross d i → size-at d i ≤ 65000
+
+-- what the back links of an accepted drawing are, and what they do
+pub record Backs-mean (d : Given) : Type 0 where
+  -- they are the one list of links that the subject asks for
+  pub links : Back-links (d .actors) (base-edges d) (d .lead) (map link-edge (back-links d))
+  pub only : (ls : List Edge) → Back-links (d .actors) (base-edges d) (d .lead) ls → ls ≡ map link-edge (back-links d)
+  pub few : length (back-links d) ≤ 15
+  -- with them each part is one group
+  pub whole : (u v : ℕ) → Joined (base-edges d) u v → Reaches (edges-with d (all-links d)) u v
+
+-- what the costs of an accepted drawing are
+pub record Costs-mean (d : Given) (t : Totals) : Type 0 where
+  pub before : Costs (d .actors) (base-edges d) (given-edges d) (t .before)
+  -- 2 for each kept or back link
+  pub after : t .after ≡ 2 * count (waited d) (length (plan-edges d))
+  pub no-dearer : t .after ≤ t .before
+
+-- where the links and the least delays of an accepted drawing are found
+pub record Found (d : Given) : Type 0 where
+  pub links : planned d .links ≡ over (plan-links d) (d .links)
+  pub delays : planned d .delays ≡ over (plan-delays d) (d .delays)
+  -- the plan's links are the given and the back links
+  pub edges : map link-edge (plan-links d) ≡ plan-edges d
+
+-- all that planning promises of a drawing
+pub record Promise (d : Given) : Type 0 where
+  pub deadlock : Deadlock-exactly d
+  pub backs : (t : Totals) → planned d .answer ≡ Ok t → Backs-mean d
+  pub means : (t : Totals) → planned d .answer ≡ Ok t → Plan-means d
+  pub costs : (t : Totals) → planned d .answer ≡ Ok t → Costs-mean d t
+  pub found : (t : Totals) → planned d .answer ≡ Ok t → Found d

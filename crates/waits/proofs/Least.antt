@@ -9,7 +9,8 @@ use Rattle.records.specs.declared.tables.Edge.{Edge}
 use Rattle.records.specs.Tables.{edge}
 use Rattle.waits.specs.Events.{Path}
 use Rattle.waits.proofs.Ends.{above-ends, within-above}
-use Rattle.waits.proofs.Shorter.{Then, Stop, Walk, walk-path, path-few}
+use Rattle.waits.specs.Walks.{Then, Stop, Walk}
+use Rattle.waits.proofs.Shorter.{walk-path, path-few}
 
 -- the least number with P, or that none has it
 abbrev pub Least : (ℕ → Type 0) → Type 0

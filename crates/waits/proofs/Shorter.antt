@@ -11,20 +11,8 @@ use Rattle.records.specs.declared.tables.Edge.{Edge}
 use Rattle.records.specs.Tables.{edge}
 use Rattle.waits.specs.Counting.{count}
 use Rattle.waits.specs.Events.{In, Path, last, step, Within}
+use Rattle.waits.specs.Walks.{Stop, Then, Walk, Short}
 use Rattle.waits.proofs.Counting.{without, without-keeps, count-without}
-
--- an edge of es from u, and then what P allows
-abbrev pub Then : List Edge → (ℕ → ℕ → Type 0) → ℕ → ℕ → Type 0
-Then es P u t = (w : ℕ) × (d : ℕ) × (r : ℕ) × In (edge u w d) es × P w r × (d + r ≡ t)
-
--- no edge, from u to v
-abbrev pub Stop : ℕ → ℕ → ℕ → Type 0
-Stop u v t = (u ≡ v) × (t ≡ 0)
-
--- at most k edges, or none, from u to v
-abbrev pub Walk : List Edge → ℕ → ℕ → ℕ → ℕ → Type 0
-Walk es zero u v t = Stop u v t
-Walk es (suc k) u v t = Stop u v t ⊎ Then es (λ w r. Walk es k w v r) u t
 
 only-edge : (es : List Edge) (u w v d r t : ℕ) → In (edge u w d) es → Stop w v r → d + r ≡ t → Path es u v t
 only-edge es u w v d r t h s q = subst (λ x. Path es u x t) (s .0) (subst (λ n. Path es u w n) (omega arith) (last h))
@@ -80,11 +68,11 @@ module _ (es : List Edge) (n : ℕ) (within : Within n es) where
   few (suc c) A k _ _ _ stay = (0, omega arith, inl (refl, refl))
   few (suc c) A k _ _ _ (leave {u} {w} {v} {t} d a h p) = let (m, l, i) = few-more c (few c) A k u w v d t a h p in (m, l, inr i)
 
-  first : (u w v d t : ℕ) → In (edge u w d) es → Route es (λ _. true) w v t → (m : ℕ) × (m ≤ d + t) × Then es (λ x r. Walk es (n - 1) x v r) u m
+  first : (u w v d t : ℕ) → In (edge u w d) es → Route es (λ _. true) w v t → (m : ℕ) × (m ≤ d + t) × Short es n u v m
   first u w v d t h p = few-more (n - 1) (few (n - 1)) (λ _. true) (omega (arith, count-all n, within (edge u w d) h)) u w v d t refl h p
 
   -- over edges within n actors a path has one of at most n edges and at most its delay
-  pub path-few : (u v t : ℕ) → Path es u v t → (m : ℕ) × (m ≤ t) × Then es (λ w r. Walk es (n - 1) w v r) u m
+  pub path-few : (u v t : ℕ) → Path es u v t → (m : ℕ) × (m ≤ t) × Short es n u v m
   path-few _ _ _ (last {u} {v} {d} h) = let (m, l, i) = first u v v d 0 h stay in (m, omega arith, i)
   path-few _ _ _ (step {u} {w} {v} {t} d h p) = first u w v d t h (route p)
 
