@@ -52,4 +52,5 @@ pub mod Picked
 pub mod StandIns
 pub mod BackLinks
 pub mod OneList
+pub mod PlanBacks
 pub mod Meaning
