@@ -53,4 +53,6 @@ pub mod StandIns
 pub mod BackLinks
 pub mod OneList
 pub mod PlanBacks
+pub mod Charges
 pub mod Meaning
+pub mod Promised
