@@ -12,6 +12,7 @@ ghost use Rattle.planning.specs.Costs.{cost-before, cost-after};
 ghost use Rattle.planning.specs.Edges.{orders};
 ghost use Rattle.planning.specs.Planning.{drawing, over, plan-totals, accepted, planned, base-delays};
 ghost use Rattle.planning.specs.Tables.{parts};
+ghost use Rattle.meaning.specs.Promises.{Promise};
 ghost use Rattle.planner.specs.Slips.{slip-of, slip-answer, slip-values};
 ghost use Rattle.planner.specs.Steps.{ground-of, with-backs, delays-over, finished};
 ghost use Rattle.planner.specs.Within.{Ends-below, Sound};
@@ -177,7 +178,7 @@ fn plan_live(
 /// ignored, and the lead. Refusals 5 to 10 change nothing; after refusal 11 the first n × n entries of `reach` tell who is
 /// reached by delay-free edges. On success each given link has its mark and size, the back links stand after the given
 /// ones, the first n × n entries of `delays` hold the least delays with back links, row by sender, and those of `reach`
-/// tell who shares a part. All else stands.
+/// tell who shares a part. All else stands. What the plan means for the unit is `Promise`.
 pub fn plan(
     actors: &[Actor],
     links: &mut [Link],
@@ -192,6 +193,7 @@ pub fn plan(
     ensures delays { λ _. ⌜ now (delays .exit) ≡ planned (drawing (now (actors .entry)) (now (links .entry)) given lead (now (delays .entry)) (now (reach .entry))) .delays ⌝ }
     ensures room { λ r. ⌜ made r (λ s. s .given + s .back ≤ length (now (links .entry))) ⌝ }
     ensures reach { λ _. ⌜ now (reach .exit) ≡ planned (drawing (now (actors .entry)) (now (links .entry)) given lead (now (delays .entry)) (now (reach .entry))) .reach ⌝ }
+    ensures promise { λ _. ⌜ Promise (drawing (now (actors .entry)) (now (links .entry)) given lead (now (delays .entry)) (now (reach .entry))) ⌝ }
 {
     survey(actors, links, given, lead, delays, reach)?;
     Ok(plan_live(actors, links, given, lead, delays, reach))

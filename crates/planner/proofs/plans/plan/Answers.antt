@@ -11,6 +11,7 @@ use Rattle.paths.specs.Models.{reach-ops, delay-ops}
 use Rattle.planning.specs.declared.Sight.the-variants.{Directed, Loose}
 use Rattle.planning.specs.Planning.{drawing, over, base-edges, edges-with, all-links, base-delays, free-paths, ground, plan-delays, planned}
 use Rattle.planning.proofs.Standing.{length-paths-over}
+use Rattle.meaning.proofs.Promised.{promise}
 use Rattle.planner.specs.Slips.{slip-of, slip-answer, slip-values}
 use Rattle.planner.proofs.Planned.{over-over, planned-refused, planned-live, totals-whatever, links-whatever}
 use Rattle.planner.proofs.plans.plan.Needs as need
@@ -29,6 +30,7 @@ returns-in-Break-survey c =
       delays = c .survey .ensures .delays ∙ sym (same .delays);
       room = subst (λ r. made r (λ s. s .given + s .back ≤ length (c .args .links .now))) (sym (p .1)) tt;
       reach = c .survey .ensures .reach ∙ sym (same .reach);
+      promise = promise d;
     }
 
 pub plan-live-requires : need.plan-live-requires
@@ -70,4 +72,5 @@ returns c =
       delays = call .delays ∙ ap (over (plan-delays d)) delays ∙ over-over (plan-delays d) (base-delays d) (d .delays) same-delays ∙ sym (ap (λ o. o .delays) (on .1));
       room = call .room;
       reach = call .reach ∙ ap (over (ground d .joined)) reach ∙ over-over (ground d .joined) (free-paths d) (d .reach) same-reach ∙ sym (ap (λ o. o .reach) (on .1));
+      promise = promise d;
     }
