@@ -10,6 +10,7 @@ from second_planner import (
     Actor, BACK, DROPPED, Drawing, Edge, KEPT, LOCAL, Link, MOST_BACKS, MOST_BYTES, Refusal,
     USUAL, answer, deadlocked_actor, groups_of, is_cross, least_delays_from, leaving_edges,
     link_edges, make_plan, order_edges, parts_of, read_text)
+from second_runs import test_meaning
 
 
 def slow_least(n, edges):
@@ -284,6 +285,7 @@ def selftest():
     print("known answers: %d" % test_known())
     print("examples: %d" % test_examples())
     print("small drawings against brute force: %d live, %d deadlocked" % test_planning())
+    print("tiny drawings run in every way: %d live, %d deadlocked" % test_meaning(require))
     found = test_texts()
     print("texts against patterns: %d read, refused 1 to 4: %s"
           % (found[0], [found[number] for number in range(1, 5)]))
