@@ -78,11 +78,13 @@ module _ (d : Given) where
       ap (λ l. l .size) (link-at i within) ∙ ap (size-of (length (d .actors)) (plan-delays d)) (given-link i h)
 
   module _ (ok : tables-check d ≡ Ok tt) where
-    pub back-mark : (i : ℕ) → length (take (d .given) (d .links)) ≤ i → i < length (all-links d) → getD (plan-links d) i no-link .mark ≡ 3
-    back-mark i ge h =
-        ap (λ l. l .mark) (link-at i h) ∙ ap (λ l. l .mark) (back-link-at i ge)
-        ∙ ap (λ l. l .mark) (getD-append-right (take (d .given) (d .links)) (back-links d) (length (take (d .given) (d .links))) i no-link refl ge)
+    pub all-back-mark : (i : ℕ) → length (take (d .given) (d .links)) ≤ i → i < length (all-links d) → getD (all-links d) i no-link .mark ≡ 3
+    all-back-mark i ge h =
+        ap (λ l. l .mark) (getD-append-right (take (d .given) (d .links)) (back-links d) (length (take (d .given) (d .links))) i no-link refl ge)
         ∙ fine-at (length (d .actors)) (back-links d) (backs-fine (ground d) (d .lead) (passed d ok .lead-high)) (i - length (take (d .given) (d .links))) (omega (arith, all-long)) .1
+
+    pub back-mark : (i : ℕ) → length (take (d .given) (d .links)) ≤ i → i < length (all-links d) → getD (plan-links d) i no-link .mark ≡ 3
+    back-mark i ge h = ap (λ l. l .mark) (link-at i h) ∙ ap (λ l. l .mark) (back-link-at i ge) ∙ all-back-mark i ge h
 
     pub back-size : (i : ℕ) → length (take (d .given) (d .links)) ≤ i → i < length (all-links d)
         → getD (plan-links d) i no-link .size ≡ size-of (length (d .actors)) (plan-delays d) (getD (all-links d) i no-link)

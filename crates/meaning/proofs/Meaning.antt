@@ -12,6 +12,7 @@ use Rattle.std.specs.Iters.{counting}
 use Rattle.std.proofs.shelf.Lists.{getD-append-left, length-map, length-take, length-take-le, take-all}
 use Rattle.std.proofs.shelf.Tests.{cases-lt, cases-bool, cond-true, cond-false, or-left, or-right, or-cases, eq-eqb, ne-eqb, eqb-true, eqb-false, both-ways}
 use Rattle.records.specs.declared.tables.Edge.{Edge}
+use Rattle.records.specs.declared.tables.Link.{Link}
 use Rattle.records.specs.Tables.{no-link, edge, link-edge, processor-of}
 use Rattle.waits.specs.Counting.{count}
 use Rattle.waits.specs.Drawings.{Follows, Enforced}
@@ -24,7 +25,8 @@ use Rattle.planning.specs.Edges.{orders, without}
 use Rattle.planning.specs.Marks.{local, redundant, mark-of}
 use Rattle.planning.specs.Planning.{Given, tables-check, edges-with, ground, all-links, back-links, plan-delays, plan-links}
 use Rattle.meaning.specs.Choices.{place, chosen}
-use Rattle.meaning.specs.Promises.{given-edges, plan-edges, mark-at, size-at, waited, waited-edges, Cross, Replaced, Least, Plan-means}
+use Rattle.meaning.specs.Promises.{given-edges, plan-edges, mark-at, size-at, waited, waited-edges, Cross, Crossing, Replaced, Least, Plan-means}
+use Rattle.meaning.specs.Components.{Reaches}
 use Rattle.meaning.proofs.BackEnds.{Fine-link}
 use Rattle.meaning.proofs.Chosen.{in-left, in-right, in-more, in-place, chosen-part}
 use Rattle.meaning.proofs.Covers.{Covers}
@@ -34,7 +36,7 @@ use Rattle.meaning.proofs.Dropping.{Spared, dropped-at-once}
 use Rattle.meaning.proofs.Enforcing.{enforced-covered, covered-enforced}
 use Rattle.meaning.proofs.Fewest.{Needed, fewest}
 use Rattle.meaning.proofs.Filling.{never-further, gets-so-far}
-use Rattle.meaning.proofs.FinalMarks.{place-is, all-long, given-mark, given-size, back-mark}
+use Rattle.meaning.proofs.FinalMarks.{place-is, all-long, given-mark, given-size, all-back-mark, back-mark, back-size}
 use Rattle.meaning.proofs.Following.{follows, obeys-edges, enforced, enforces}
 use Rattle.meaning.proofs.Locals.{local-covered}
 use Rattle.meaning.proofs.Planned.{all-fine, all-small}
@@ -50,7 +52,9 @@ at-place (f ∷ es) e (inr i) = let r = at-place es e i in (suc (r .0), omega (a
 
 module _ (d : Given) (ok : tables-check d ≡ Ok tt) (live : Live (edges-with d (all-links d)))
     (needed : (i : ℕ) → length (given-edges d) ≤ i → i < length (plan-edges d) → Needed (orders (d .actors)) (plan-edges d) i)
-    (returns : (e : Edge) → In e (given-edges d) → (t : ℕ) × Path (edges-with d (all-links d)) (e .receiver) (e .sender) t) where
+    (returns : (e : Edge) → In e (plan-edges d) → Reaches (edges-with d (all-links d)) (e .receiver) (e .sender))
+    (backs-cross : (i : ℕ) → length (given-edges d) ≤ i → i < length (plan-edges d)
+      → processor-of (d .actors) (place (plan-edges d) i .sender) ≡ processor-of (d .actors) (place (plan-edges d) i .receiver) → ⊥) where
 
   given-long : length (given-edges d) ≡ length (take (d .given) (d .links))
   given-long = length-map (take (d .given) (d .links)) link-edge
@@ -149,13 +153,6 @@ module _ (d : Given) (ok : tables-check d ≡ Ok tt) (live : Live (edges-with d 
       (λ i h _. enforced-covered (length (d .actors)) (orders (d .actors)) (plan-edges d) (all-small d ok .within) live turn C i h
         (enforces (d .actors) (chosen C (plan-edges d)) (place (plan-edges d) i) (all i h)))
 
-  given-in : (i : ℕ) → i < length (given-edges d) → In (place (plan-edges d) i) (given-edges d)
-  given-in i h =
-      let l : i < length (take (d .given) (d .links)) = omega (arith, given-long) in
-      subst (λ e. In e (given-edges d))
-      (sym (place-is d i (omega (arith, all-long d)) ∙ ap link-edge (getD-append-left (take (d .given) (d .links)) (back-links d) no-link i l)))
-      (link-in (take (d .given) (d .links)) i l)
-
   -- whoever follows the kept and back links obeys every edge
   obeys-all : (xs : List Event) → Follows (d .actors) (waited-edges d) xs → Obeys-all xs (edges-with d (all-links d))
   obeys-all xs f e i = elim (in-++ e (orders (d .actors)) (plan-edges d) i) [
@@ -168,64 +165,88 @@ module _ (d : Given) (ok : tables-check d ≡ Ok tt) (live : Live (edges-with d 
       follows (d .actors) (waited-edges d) xs lawful
       (λ e i. all e (in-more (orders (d .actors)) (waited-edges d) (plan-edges d) (chosen-part (waited d) (plan-edges d)) e i))
 
-  back-of : (i : ℕ) → i < length (given-edges d) → ℕ
-  back-of i h = least (length (d .actors)) (edges-with d (all-links d)) (all-small d ok .within) (place (plan-edges d) i .receiver) (place (plan-edges d) i .sender)
+  -- the least delay back, by the table
+  back-of : ℕ → ℕ
+  back-of i = least (length (d .actors)) (edges-with d (all-links d)) (all-small d ok .within) (place (plan-edges d) i .receiver) (place (plan-edges d) i .sender)
 
-  module _ (i : ℕ) (x : Cross d i) where
-    below : i < length (plan-edges d)
-    below = omega (arith, x .given, more-edges)
+  back-number : (i : ℕ) → i < length (plan-edges d) → back-of i ≤ 64000
+  unfolding back-of
+  back-number i h =
+      let f = fine i h in
+      let r = returns (place (plan-edges d) i) (in-place (plan-edges d) i h) in
+      least-small (length (d .actors)) (edges-with d (all-links d)) (all-small d ok) (place (plan-edges d) i .receiver) (place (plan-edges d) i .sender) (f .1) (f .0) (r .1)
 
-    back-number : back-of i (x .given) ≤ 64000
-    unfolding back-of
-    back-number =
-        let f = fine i below in
-        let r = returns (place (plan-edges d) i) (given-in i (x .given)) in
-        least-small (length (d .actors)) (edges-with d (all-links d)) (all-small d ok) (place (plan-edges d) i .receiver) (place (plan-edges d) i .sender) (f .1) (f .0) (r .1)
+  -- a link of the plan, before marks and sizes
+  abbrev link : ℕ → Link
+  link i = getD (all-links d) i no-link
 
-    not-local : local (d .actors) (place (plan-edges d) i) ≡ false
-    not-local = ne-eqb _ _ (x .across)
+  -- what its size is if it is not local
+  abbrev cells-of : ℕ → ℕ
+  cells-of i = delay-ops .follow (delay-ops .edge (link i .delay)) (entry delay-ops (plan-delays d) (length (d .actors)) (link i .receiver) (link i .sender)) .value
 
-    not-home : eqb (mark-of (d .actors) (plan-edges d) i (link-edge (getD (all-links d) i no-link))) 2 ≡ false
-    not-home =
-        let l : i < length (all-links d) = omega (arith, below, edges-long) in
-        let cross : local (d .actors) (link-edge (getD (all-links d) i no-link)) ≡ false = ap (local (d .actors)) (sym (place-is d i l)) ∙ not-local in
-        ap (λ b. eqb (cond b 2 (cond (redundant (d .actors) (plan-edges d) i (link-edge (getD (all-links d) i no-link))) 0 1)) 2) cross
-        ∙ ap (λ m. eqb m 2) refl
-        ∙ zero-or-one (redundant (d .actors) (plan-edges d) i (link-edge (getD (all-links d) i no-link)))
+  module _ (i : ℕ) (h : i < length (plan-edges d)) where
+    within : i < length (all-links d)
+    within = omega (arith, edges-long)
+
+    given-cells : i < length (given-edges d) → local (d .actors) (place (plan-edges d) i) ≡ false → size-at d i ≡ cells-of i
+    given-cells g cross =
+        let not-local : local (d .actors) (link-edge (link i)) ≡ false = ap (local (d .actors)) (sym (place-is d i within)) ∙ cross in
+        given-size d i (omega (arith, given-long))
+        ∙ cond-false _ _ _ (ap (λ b. eqb (cond b 2 (cond (redundant (d .actors) (plan-edges d) i (link-edge (link i))) 0 1)) 2) not-local ∙ zero-or-one (redundant (d .actors) (plan-edges d) i (link-edge (link i))))
       where
         zero-or-one : (b : Bool) → eqb (cond b 0 1) 2 ≡ false
         zero-or-one true = refl
         zero-or-one false = refl
 
-    size-is : size-at d i ≡ place (plan-edges d) i .delay + back-of i (x .given)
+    back-cells : length (given-edges d) ≤ i → size-at d i ≡ cells-of i
+    back-cells ge =
+        let mark : link i .mark ≡ 3 = all-back-mark d ok i (omega (arith, given-long)) within in
+        back-size d ok i (omega (arith, given-long)) within ∙ cond-false _ _ _ (ap (λ m. eqb m 2) mark)
+
+  module _ (i : ℕ) (x : Crossing d i) where
+    size-is : size-at d i ≡ place (plan-edges d) i .delay + back-of i
     unfolding back-of
     size-is =
-        let l : i < length (all-links d) = omega (arith, below, edges-long) in
-        let f = fine i below in
-        let whole = given-size d i (omega (arith, x .given, given-long)) ∙ cond-false _ _ _ not-home in
-        let there : entry delay-ops (plan-delays d) (length (d .actors)) (getD (all-links d) i no-link .receiver) (getD (all-links d) i no-link .sender) .value ≡ back-of i (x .given) =
-          ap (λ (e : Edge). entry delay-ops (plan-delays d) (length (d .actors)) (e .receiver) (e .sender) .value) (sym (place-is d i l)) in
-        let delay : getD (all-links d) i no-link .delay ≡ place (plan-edges d) i .delay = ap (λ (e : Edge). e .delay) (sym (place-is d i l)) in
-        omega (arith, whole, there, delay, back-number, f .2)
+        let same = place-is d i (omega (arith, x .below, edges-long)) in
+        let whole : size-at d i ≡ cells-of i =
+          ⊎-elim
+          (λ (g : i < length (given-edges d)). given-cells i (x .below) g (ne-eqb _ _ (x .across)))
+          (λ (g : length (given-edges d) ≤ i). back-cells i (x .below) g)
+          (cases-lt i (length (given-edges d))) in
+        let there : entry delay-ops (plan-delays d) (length (d .actors)) (link i .receiver) (link i .sender) .value ≡ back-of i =
+          ap (λ (e : Edge). entry delay-ops (plan-delays d) (length (d .actors)) (e .receiver) (e .sender) .value) (sym same) in
+        let delay : link i .delay ≡ place (plan-edges d) i .delay = ap (λ (e : Edge). e .delay) (sym same) in
+        omega (arith, whole, there, delay, back-number i (x .below), fine i (x .below) .2)
+
+    cells : size-at d i ≡ place (plan-edges d) i .delay + entry delay-ops (plan-delays d) (length (d .actors)) (place (plan-edges d) i .receiver) (place (plan-edges d) i .sender) .value
+    unfolding back-of
+    cells = size-is
+
+    cells-few : size-at d i ≤ 65000
+    cells-few = omega (arith, size-is, back-number i (x .below), fine i (x .below) .2)
 
     never-overfull : (xs : List Event) → Follows (d .actors) (waited-edges d) xs → (k : ℕ)
         → place (plan-edges d) i .delay + starts (place (plan-edges d) i .sender) (take k xs) ≤ finishes (place (plan-edges d) i .receiver) (take k xs) + size-at d i
     unfolding back-of
     never-overfull xs follow k =
-        let f = fine i below in
-        omega (arith, size-is, never-further (length (d .actors)) (edges-with d (all-links d)) (all-small d ok) (place (plan-edges d) i .sender) (place (plan-edges d) i .receiver) (f .0) (f .1) (omega (arith, back-number)) xs (follow .lawful) (obeys-all xs follow) k)
+        let f = fine i (x .below) in
+        omega (arith, size-is, never-further (length (d .actors)) (edges-with d (all-links d)) (all-small d ok) (place (plan-edges d) i .sender) (place (plan-edges d) i .receiver) (f .0) (f .1) (omega (arith, back-number i (x .below))) xs (follow .lawful) (obeys-all xs follow) k)
 
     can-be-full : (xs : List Event) × Follows (d .actors) (waited-edges d) xs
         × (place (plan-edges d) i .delay + starts (place (plan-edges d) i .sender) xs ≡ finishes (place (plan-edges d) i .receiver) xs + size-at d i)
     unfolding back-of
     can-be-full =
-        let f = fine i below in
+        let f = fine i (x .below) in
         let r = gets-so-far (length (d .actors)) (edges-with d (all-links d)) (all-small d ok) live (place (plan-edges d) i .sender) (place (plan-edges d) i .receiver) (f .0) (f .1)
           (path-over-more (λ e j. in-left e (orders (d .actors)) (plan-edges d) j) (turn (place (plan-edges d) i .receiver) (f .1))) in
         (r .0, follows-waited (r .0) (r .1) (r .2), omega (arith, size-is, r .3, r .4))
 
-    cells-few : size-at d i ≤ 65000
-    cells-few = omega (arith, size-is, back-number, fine i below .2)
+  module _ (i : ℕ) (x : Cross d i) where
+    below : i < length (plan-edges d)
+    below = omega (arith, x .given, more-edges)
+
+    not-local : local (d .actors) (place (plan-edges d) i) ≡ false
+    not-local = ne-eqb _ _ (x .across)
 
     dropped : mark-at d i ≡ 0 → Replaced d i
     dropped zero =
@@ -238,6 +259,21 @@ module _ (d : Given) (ok : tables-check d ≡ Ok tt) (live : Live (edges-with d 
     replaced : Replaced d i → mark-at d i ≡ 0
     replaced c = mark-is i (x .given) ∙ cond-false _ _ _ not-local ∙ cond-true _ _ _ (covers-redundant i below c)
 
+    kept : (Replaced d i → ⊥) → mark-at d i ≡ 1
+    kept never =
+        ⊎-elim
+        (λ (r : redundant (d .actors) (plan-edges d) i (place (plan-edges d) i) ≡ true). absurd (never (redundant-covers i below r)))
+        (λ (r : redundant (d .actors) (plan-edges d) i (place (plan-edges d) i) ≡ false). mark-is i (x .given) ∙ cond-false _ _ _ not-local ∙ cond-false _ _ _ r)
+        (cases-bool (redundant (d .actors) (plan-edges d) i (place (plan-edges d) i)))
+
+  home : (i : ℕ) → i < length (plan-edges d)
+      → processor-of (d .actors) (place (plan-edges d) i .sender) ≡ processor-of (d .actors) (place (plan-edges d) i .receiver) → mark-at d i ≡ 2
+  home i h same =
+      ⊎-elim
+      (λ (g : i < length (given-edges d)). mark-is i g ∙ cond-true _ _ _ (eq-eqb _ _ same))
+      (λ (g : length (given-edges d) ≤ i). absurd (backs-cross i g h same))
+      (cases-lt i (length (given-edges d)))
+
   pub plan-means : Plan-means d
   plan-means = record {
     live = live;
@@ -245,11 +281,15 @@ module _ (d : Given) (ok : tables-check d ≡ Ok tt) (live : Live (edges-with d 
       attained = least-short (length (d .actors)) (edges-with d (all-links d)) (all-small d ok .within) u v hu hv;
       smallest = λ t p. (least-low (length (d .actors)) (edges-with d (all-links d)) (all-small d ok .within) hu hv p, least-small (length (d .actors)) (edges-with d (all-links d)) (all-small d ok) u v hu hv p);
     };
+    local = home;
+    back = λ i ge h. back-mark d ok i (omega (arith, given-long)) (omega (arith, edges-long));
     dropped = dropped;
     replaced = replaced;
+    kept = kept;
     enough = enough;
     fewest = no-fewer;
+    cells = cells;
+    cells-few = cells-few;
     never-overfull = never-overfull;
     can-be-full = can-be-full;
-    cells-few = cells-few;
   }

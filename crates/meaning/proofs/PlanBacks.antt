@@ -10,7 +10,7 @@ use Rattle.std.proofs.shelf.Lists.{append-assoc, map-append, getD-append-left, 
 use Rattle.std.proofs.shelf.Tests.{cases-lt}
 use Rattle.records.specs.declared.tables.Edge.{Edge}
 use Rattle.records.specs.declared.tables.Link.{Link}
-use Rattle.records.specs.Tables.{no-link, edge, link-edge}
+use Rattle.records.specs.Tables.{no-link, edge, link-edge, processor-of}
 use Rattle.waits.specs.Events.{In, Path, Live}
 use Rattle.waits.proofs.Paths.{in-++}
 use Rattle.planning.specs.Edges.{orders, without}
@@ -18,7 +18,7 @@ use Rattle.planning.specs.Planning.{Given, tables-check, cycles-check, base-edg
 use Rattle.meaning.specs.Choices.{place}
 use Rattle.meaning.specs.Components.{Reaches, Joined, along, against, on, Back-links}
 use Rattle.meaning.specs.Promises.{given-edges, plan-edges, Backs-mean}
-use Rattle.meaning.proofs.BackEdges.{all-backs, with-backs}
+use Rattle.meaning.proofs.BackEdges.{all-backs, back-edges, with-backs}
 use Rattle.meaning.proofs.BackLinks.{back-links as subject-links}
 use Rattle.meaning.proofs.BacksLive.{backs-live}
 use Rattle.meaning.proofs.BacksNeeded.{backs-in, backs-new}
@@ -30,10 +30,13 @@ use Rattle.meaning.proofs.Drawn.{passed, base-small}
 use Rattle.meaning.proofs.Few.{few-backs, backs-uncut}
 use Rattle.meaning.proofs.Fewest.{Needed}
 use Rattle.meaning.proofs.Groups.{part-decides}
+use Rattle.meaning.proofs.Joins.{joined-back, loose-joins}
 use Rattle.meaning.proofs.Known.{Known, given-known}
+use Rattle.meaning.proofs.LinkKinds.{in-map}
 use Rattle.meaning.proofs.OneList.{back-links-one}
+use Rattle.meaning.proofs.Planned.{all-small}
 use Rattle.meaning.proofs.Rising.{Has}
-use Rattle.meaning.proofs.Told.{backs-distinct}
+use Rattle.meaning.proofs.Told.{told-joined, backs-told, backs-distinct}
 use Rattle.meaning.proofs.Twins.{twin-is-lower}
 
 has-at : {X : Type 0} (xs : List X) (x : X) (i : ℕ) → i < length xs → Has (getD xs i x) xs
@@ -76,9 +79,6 @@ module _ (d : Given) (ok : tables-check d ≡ Ok tt) where
       let (hu, hv) = joined-below (length (d .actors)) (base-edges d) (base-small d ok .within) j in
       subst (λ es. Reaches es u v) (sym edges-are)
       (backs-whole known (d .lead) u v hu hv (part-decides (length (d .actors)) (base-edges d) (base-small d ok) u v hu hv .1 j))
-
-  pub returns : (e : Edge) → In e (given-edges d) → Reaches (edges-with d (all-links d)) (e .receiver) (e .sender)
-  returns e i = whole (e .receiver) (e .sender) (against (e .delay) (in-right e (orders (d .actors)) (given-edges d) i))
 
   split : plan-edges d ≡ given-edges d ++ map link-edge (back-links d)
   split = map-append link-edge (take (d .given) (d .links)) (back-links d)
@@ -142,6 +142,33 @@ module _ (d : Given) (ok : tables-check d ≡ Ok tt) where
     pub needed : Needed (orders (d .actors)) (plan-edges d) i
     needed (t, l, p) =
         not-other (backs-in known (d .lead) (back-at i) here others others-known (t, subst (λ e. Path others (e .sender) (e .receiver) t) (back-place i ge h) p))
+
+    -- nor do the turns of a processor lead from its sender to its receiver
+    pub crosses : processor-of (d .actors) (place (plan-edges d) i .sender) ≡ processor-of (d .actors) (place (plan-edges d) i .receiver) → ⊥
+    crosses same =
+        let is = back-place i ge h in
+        let ends = backs-below h in
+        not-base (backs-in known (d .lead) (back-at i) here (base-edges d) (λ e j. in-left e (base-edges d) (back-edges (ground d) (d .lead)) j)
+          (1, subst (λ e. Path (base-edges d) (e .sender) (e .receiver) 1) is (known .turns (place (plan-edges d) i .sender) (place (plan-edges d) i .receiver) (ends .0) (ends .1) same)))
+      where
+        backs-below : i < length (plan-edges d) → (place (plan-edges d) i .sender < length (d .actors)) × (place (plan-edges d) i .receiver < length (d .actors))
+        backs-below l = all-small d ok .within (place (plan-edges d) i) (in-right (place (plan-edges d) i) (orders (d .actors)) (plan-edges d) (in-place (plan-edges d) i l))
+
+  -- the ends of a back link are in one part
+  back-joined : (b : Link) → Has b (all-backs (ground d) (d .lead)) → Joined (base-edges d) (b .receiver) (b .sender)
+  back-joined b h =
+      let (p, hp, several, told) = backs-told known (d .lead) b h in
+      let (from, to) = told-joined known (d .lead) p b told in
+      on (joined-back (loose-joins to)) (loose-joins from)
+
+  -- from the receiver of every link a path leads back to its sender
+  pub returns : (e : Edge) → In e (plan-edges d) → Reaches (edges-with d (all-links d)) (e .receiver) (e .sender)
+  returns e i = elim (in-++ e (given-edges d) (map link-edge (back-links d)) (subst (λ es. In e es) split i)) [
+    | inl given ↦ whole (e .receiver) (e .sender) (against (e .delay) (in-right e (orders (d .actors)) (given-edges d) given))
+    | inr back ↦
+        let (b, h, same) = in-map (all-backs (ground d) (d .lead)) e (subst (λ bs. In e (map link-edge bs)) uncut back) in
+        subst (λ f. Reaches (edges-with d (all-links d)) (f .receiver) (f .sender)) (sym same) (whole (b .receiver) (b .sender) (back-joined b h))
+  ]
 
   pub backs-mean : Backs-mean d
   backs-mean =

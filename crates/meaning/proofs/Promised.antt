@@ -19,7 +19,7 @@ use Rattle.meaning.specs.Promises.{plan-edges, Costs-mean, Found, Plan-means, 
 use Rattle.meaning.proofs.Charges.{costs-mean}
 use Rattle.meaning.proofs.Deadlocks.{deadlock-exactly, passes-cycles}
 use Rattle.meaning.proofs.Meaning.{plan-means}
-use Rattle.meaning.proofs.PlanBacks.{alive, needed, returns, backs-mean}
+use Rattle.meaning.proofs.PlanBacks.{alive, needed, crosses, returns, backs-mean}
 
 -- sizes and marks leave the ends and delays of links as they are
 sized-edges : (n : ℕ) (delays : List Delay) (ls : List Link) → map link-edge (sized n delays ls) ≡ map link-edge ls
@@ -64,7 +64,7 @@ module _ (d : Given) (t : Totals) (e : planned d .answer ≡ Ok t) where
   free = passes-cycles d ok t e
 
   means : Plan-means d
-  means = plan-means d ok (alive d ok free) (needed d ok) (returns d ok)
+  means = plan-means d ok (alive d ok free) (needed d ok) (returns d ok) (crosses d ok)
 
   totals : plan-totals d ≡ t
   totals = let same : _≡_ {A = Result Totals Fault} (Ok (plan-totals d)) (Ok t) = sym (ap (λ o. o .answer) (plan-is d ok free)) ∙ e in cc

@@ -69,6 +69,11 @@ pub record Cross (d : Given) (i : ℕ) : Type 0 where
   pub given : i < length (given-edges d)
   pub across : processor-of (d .actors) (place (plan-edges d) i .sender) ≡ processor-of (d .actors) (place (plan-edges d) i .receiver) → ⊥
 
+-- link i joins two processors, be it given or a back link
+pub record Crossing (d : Given) (i : ℕ) : Type 0 where
+  pub below : i < length (plan-edges d)
+  pub across : processor-of (d .actors) (place (plan-edges d) i .sender) ≡ processor-of (d .actors) (place (plan-edges d) i .receiver) → ⊥
+
 -- a path from sender to receiver has at most the link's delay, and uses neither link i nor a twin of higher number
 abbrev pub Replaced : Given → ℕ → Type 0
 Replaced d i =
@@ -86,21 +91,29 @@ pub record Plan-means (d : Given) : Type 0 where
   -- back links create no deadlock
   pub live : Live (edges-with d (all-links d))
   pub least : (u v : ℕ) → u < length (d .actors) → v < length (d .actors) → Least d u v (entry delay-ops (plan-delays d) (length (d .actors)) u v .value)
-  -- a cross link is dropped exactly when a path replaces it
+  -- local links are marked 2, back links 3
+  pub local : (i : ℕ) → i < length (plan-edges d)
+      → processor-of (d .actors) (place (plan-edges d) i .sender) ≡ processor-of (d .actors) (place (plan-edges d) i .receiver) → mark-at d i ≡ 2
+  pub back : (i : ℕ) → length (given-edges d) ≤ i → i < length (plan-edges d) → mark-at d i ≡ 3
+  -- a cross link is dropped exactly when a path replaces it, and else kept
   pub dropped : (i : ℕ) → Cross d i → mark-at d i ≡ 0 → Replaced d i
   pub replaced : (i : ℕ) → Cross d i → Replaced d i → mark-at d i ≡ 0
+  pub kept : (i : ℕ) → Cross d i → (Replaced d i → ⊥) → mark-at d i ≡ 1
   -- the kept and back links enforce the waits of all links
   pub enough : (i : ℕ) → i < length (plan-edges d) → Enforced (d .actors) (waited-edges d) (place (plan-edges d) i)
   -- every choice that does so has at least as many
   pub fewest : (C : ℕ → Bool) → ((i : ℕ) → i < length (plan-edges d) → Enforced (d .actors) (chosen C (plan-edges d)) (place (plan-edges d) i))
       → count (waited d) (length (plan-edges d)) ≤ count C (length (plan-edges d))
-  -- no cross link ever holds more values than it has cells
-  pub never-overfull : (i : ℕ) → Cross d i → (xs : List Event) → Follows (d .actors) (waited-edges d) xs → (k : ℕ)
+  -- a cross or back link has as many cells as its delay and the least delay back say
+  pub cells : (i : ℕ) → Crossing d i
+      → size-at d i ≡ place (plan-edges d) i .delay + entry delay-ops (plan-delays d) (length (d .actors)) (place (plan-edges d) i .receiver) (place (plan-edges d) i .sender) .value
+  pub cells-few : (i : ℕ) → Crossing d i → size-at d i ≤ 65000
+  -- it never holds more values
+  pub never-overfull : (i : ℕ) → Crossing d i → (xs : List Event) → Follows (d .actors) (waited-edges d) xs → (k : ℕ)
       → place (plan-edges d) i .delay + starts (place (plan-edges d) i .sender) (take k xs) ≤ finishes (place (plan-edges d) i .receiver) (take k xs) + size-at d i
   -- and some list fills it exactly
-  pub can-be-full : (i : ℕ) → Cross d i → (xs : List Event) × Follows (d .actors) (waited-edges d) xs
+  pub can-be-full : (i : ℕ) → Crossing d i → (xs : List Event) × Follows (d .actors) (waited-edges d) xs
       × (place (plan-edges d) i .delay + starts (place (plan-edges d) i .sender) xs ≡ finishes (place (plan-edges d) i .receiver) xs + size-at d i)
-  pub cells-few : (i : ℕ) → Cross d i → size-at d i ≤ 65000
 
 -- what the back links of an accepted drawing are, and what they do
 pub record Backs-mean (d : Given) : Type 0 where
