@@ -1,28 +1,25 @@
 -- From every actor an exit group is reached, and every actor is reached from an entry group.
-use mathlib.Core.Path.{_≡_, refl, sym, subst}
+use mathlib.Core.Path.{_≡_}
 use mathlib.Core.Bool.{Bool, true, false, not, _||_}
 use mathlib.Core.List.{List}
 use mathlib.Core.Logic.{inl, inr}
-use Prim.Native.Nat.{ℕ, zero, suc, _<_, _≤_}
+use Prim.Native.Nat.{ℕ, zero, suc, _<_}
 use native.Mathlib.Omega.{arith}
-use Rattle.std.proofs.shelf.Tests.{cases-bool, or-parts, not-false, both-ways}
+use Rattle.std.proofs.shelf.Tests.{cases-bool, or-parts, not-false}
 use Rattle.records.specs.declared.tables.Edge.{Edge}
 use Rattle.waits.specs.Counting.{count}
-use Rattle.waits.proofs.Counting.{without, without-keeps, count-without, counting}
 use Rattle.planning.specs.Groups.{all-below, reaches, end-group}
 use Rattle.planning.specs.Tables.{least-delays}
 use Rattle.meaning.specs.Components.{Reaches, Entry, Exit}
-use Rattle.meaning.proofs.Groups.{reaches-on, one-fails, reaches-decides, entry-decides, exit-decides}
+use Rattle.meaning.proofs.Tallies.{one-fails, count-less}
+use Rattle.meaning.proofs.Groups.{reaches-on, reaches-decides, entry-decides, exit-decides}
 use Rattle.meaning.proofs.Reaching.{Small}
 
 -- r says who is ahead of whom: whoever x has ahead, and all that those have ahead
 module _ (n : ℕ) (r : ℕ → ℕ → Bool) (goes : (x y z : ℕ) → x < n → y < n → z < n → r x y ≡ true → r y z ≡ true → r x z ≡ true) where
   -- fewer are ahead of w than of u
   fewer-ahead : (u w : ℕ) → u < n → w < n → r u u ≡ true → r u w ≡ true → r w u ≡ false → count (r w) n < count (r u) n
-  fewer-ahead u w hu hw self there no-back =
-      omega (arith, count-without (r u) u n hu self,
-        counting (r w) (without (r u) u) (λ x. x) n n
-        (λ x h t. (x, h, without-keeps (r u) u x (goes u w x hu hw h there t) (λ e. both-ways (r w u) no-back (subst (λ y. r w y ≡ true) e t)), refl)))
+  fewer-ahead u w hu hw self there no-back = count-less (r w) (r u) n (λ x h t. goes u w x hu hw h there t) u hu no-back self
 
   -- ahead of u there is some x that is ahead of all that are ahead of it
   pub furthest : ((x : ℕ) → x < n → r x x ≡ true) → (m u : ℕ) → u < n → count (r u) n < m

@@ -9,17 +9,17 @@ use lib.Dec.{eqb, leb}
 use lib.ListN.{length}
 use Rattle.std.specs.Iters.{counting}
 use Rattle.std.proofs.shelf.Lists.{length-append, take-all}
-use Rattle.std.proofs.shelf.Tests.{cases-bool, cases-lt, and-parts, and-from, eqb-true, eq-eqb, leb-true, le-leb}
+use Rattle.std.proofs.shelf.Tests.{cases-bool, cases-lt, and-parts, and-from, not-from-false, eqb-true, eq-eqb, leb-true, le-leb}
 use Rattle.records.specs.declared.tables.Edge.{Edge}
 use Rattle.waits.specs.Counting.{count}
 use Rattle.records.specs.Tables.{processor-of}
 use Rattle.planning.specs.Groups.{opens-group, opens-part, one-group}
 use Rattle.planning.specs.Backs.{Ground, part-backs, wants-backs, backs-among, backs}
 use Rattle.meaning.proofs.Known.{Known}
-use Rattle.meaning.proofs.Grounds.{part, part-itself}
-use Rattle.meaning.proofs.Openers.{opener, opener-equal, opens-opener, parts-classes, opens-part-is, opens-both, openers-few}
-use Rattle.meaning.proofs.Heads.{part-backs-fewer}
 use Rattle.meaning.proofs.Tallies.{count-from, count-from-start, count-some, count-le, count-both, count-at-most}
+use Rattle.meaning.proofs.Grounds.{Tabled, known-tabled, part, at-part, at-opens-part}
+use Rattle.meaning.proofs.Openers.{opener, opener-equal, lowest-opener, parts-classes, opens-both, openers-few}
+use Rattle.meaning.proofs.Heads.{part-backs-fewer}
 
 -- the groups, and the parts
 abbrev pub groups : Ground → ℕ
@@ -32,6 +32,9 @@ module _ (g : Ground) (es : List Edge) (known : Known g es) where
   abbrev n : ℕ
   n = length (g .actors)
 
+  abbrev tabled : Tabled g es
+  tabled = known-tabled known
+
   abbrev first : ℕ → Bool
   first u = opens-group n (g .delays) u
 
@@ -41,8 +44,8 @@ module _ (g : Ground) (es : List Edge) (known : Known g es) where
 
   front-is : (p u : ℕ) → p < n → u < n → opens-part n (g .joined) p ≡ true → part g p u ≡ true → front u ≡ p
   front-is p u hp hu o s =
-      let classes = parts-classes g es known in
-      sym (opener-equal n (part g) classes p u hp hu s) ∙ opens-opener n (part g) classes p hp (sym (opens-part-is g p) ∙ o)
+      let classes = parts-classes tabled in
+      sym (opener-equal classes p u hp hu (at-part tabled p u hp hu .0 s)) ∙ lowest-opener classes p hp (at-opens-part tabled p hp .0 o)
 
   -- of the part whose lowest actor is p
   of-part : (lead p : ℕ) → p < n
@@ -53,9 +56,9 @@ module _ (g : Ground) (es : List Edge) (known : Known g es) where
         ⊎-elim
         (λ (one : one-group n (g .delays) (g .joined) p ≡ true).
           rw (o, one) (omega (arith, count-some (λ u. first u && eqb (front u) p) n p h
-            (and-from (first p) (eqb (front p) p) (opens-both g es known p h o) (eq-eqb (front p) p (front-is p p h h o (part-itself g es known p h)))))))
+            (and-from (first p) (eqb (front p) p) (opens-both tabled p h o) (eq-eqb (front p) p (front-is p p h h o (parts-classes tabled .decides p p h h .1 (parts-classes tabled .itself p h))))))))
         (λ (several : one-group n (g .delays) (g .joined) p ≡ false).
-          rw (o, several) (omega (arith, part-backs-fewer g es known lead p h several,
+          rw (o, several) (omega (arith, part-backs-fewer tabled lead p h (and-from _ _ o (not-from-false _ several)),
             count-le (λ u. part g p u && first u) (λ u. first u && eqb (front u) p) n (λ u hu t.
               let two = and-parts (part g p u) (first u) t in
               and-from (first u) (eqb (front u) p) (two .1) (eq-eqb (front u) p (front-is p u h hu o (two .0)))))))

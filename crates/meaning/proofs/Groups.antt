@@ -1,12 +1,12 @@
 -- The planner's tests of groups and parts decide what they are in the words of the subject.
-use mathlib.Core.Path.{_≡_, refl, sym, subst}
+use mathlib.Core.Path.{refl}
 use mathlib.Core.Bool.{Bool, true, false, not, _&&_, _||_}
 use mathlib.Core.List.{List}
-use mathlib.Core.Logic.{_⊎_, inl, inr}
-use Prim.Native.Nat.{ℕ, zero, suc, _+_, _<_, _≤_}
+use mathlib.Core.Logic.{inl, inr}
+use Prim.Native.Nat.{ℕ, _+_, _<_}
 use native.Mathlib.Omega.{arith}
 use Rattle.std.specs.Orderings.{Decides}
-use Rattle.std.proofs.shelf.Tests.{cases-bool, cases-lt, cases-eq, and-parts, and-from, and-cases, or-parts, not-false, not-true, false≢true}
+use Rattle.std.proofs.shelf.Tests.{cases-lt, or-parts, not-false, not-true, false≢true}
 use Rattle.std.proofs.shelf.Ways.{decides-and, decides-not, decides-like, not-from-decides}
 use Rattle.records.specs.declared.tables.Edge.{Edge}
 use Rattle.records.specs.Tables.{edge}
@@ -19,6 +19,7 @@ use Rattle.meaning.specs.Components.{Reaches, Group, Joined, Entry, Exit, Lowe
 use Rattle.meaning.proofs.Reaching.{Small, reaches-path, path-reaches}
 use Rattle.meaning.proofs.Joining.{joined-path, path-joined-part}
 use Rattle.meaning.proofs.Joins.{loose-joins, joined-loose}
+use Rattle.meaning.proofs.Tallies.{below-decides, one-fails}
 
 pub reaches-on : {es : List Edge} {u w v : ℕ} → Reaches es u w → Reaches es w v → Reaches es u v
 reaches-on p q = (p .0 + q .0, path-joined (p .1) (q .1))
@@ -28,22 +29,6 @@ group-back g = (g .1, g .0)
 
 pub group-on : {es : List Edge} {u w v : ℕ} → Group es u w → Group es w v → Group es u v
 group-on g h = (reaches-on (g .0) (h .0), reaches-on (h .1) (g .1))
-
--- tests of every number below k
-pub below-decides : (test : ℕ → Bool) (P : ℕ → Type 0) (k : ℕ) → ((w : ℕ) → w < k → Decides (test w) (P w)) → Decides (all-below test k) ((w : ℕ) → w < k → P w)
-below-decides test P zero each = (λ _ w h. absurd (omega arith), λ _. refl)
-below-decides test P (suc k) each =
-    let rest = below-decides test P k (λ w h. each w (omega arith)) in
-    (λ t w h. elim (cases-eq w k) [
-        inl e ↦ subst P (sym e) (each k (omega arith) .0 (and-parts _ _ t .0))
-      | inr ne ↦ rest .0 (and-parts _ _ t .1) w (omega arith) ],
-    λ all. and-from _ _ (each k (omega arith) .1 (all k (omega arith))) (rest .1 (λ w h. all w (omega arith))))
-
-pub one-fails : (test : ℕ → Bool) (k : ℕ) → all-below test k ≡ false → (w : ℕ) × (w < k) × (test w ≡ false)
-one-fails test zero f = absurd (false≢true (sym f))
-one-fails test (suc k) f = elim (and-cases _ _ f) [
-    inl here ↦ (k, omega arith, here)
-  | inr before ↦ let (w, l, t) = one-fails test k before in (w, omega arith, t) ]
 
 decides-if : {P Q : Type 0} (x y : Bool) → Decides x P → Decides y Q → Decides (not x || y) (P → Q)
 decides-if true y dx dy = (λ t _. dy .0 t, λ f. dy .1 (f (dx .0 refl)))
@@ -57,6 +42,16 @@ lowest-decides n u test Shares hu each =
     (λ none w h s. elim (cases-lt w u) [ inl l ↦ absurd (none w l s) | inr l ↦ l ])
     (λ low w h s. omega (arith, low w (omega arith) s))
     (below-decides (λ w. not (test w)) (λ w. Shares u w → ⊥) u (λ w h. decides-not _ (each w (omega arith))))
+
+-- whoever reaches an entry group is in it
+pub into-entry : {es : List Edge} {u : ℕ} → Entry es u → {w x t : ℕ} → Path es w x t → Group es u x → Group es u w
+into-entry entry (last {u = w} {v = x} {d = d} h) g = entry (edge w x d) h g
+into-entry entry (step {u = w} {w = x} d h p) g = entry (edge w x d) h (into-entry entry p g)
+
+-- whoever is reached from an exit group is in it
+pub out-of-exit : {es : List Edge} {u : ℕ} → Exit es u → {w x t : ℕ} → Path es w x t → Group es u w → Group es u x
+out-of-exit exit (last {u = w} {v = x} {d = d} h) g = exit (edge w x d) h g
+out-of-exit exit (step {u = w} {w = x} d h p) g = out-of-exit exit p (exit (edge w x d) h g)
 
 module _ (n : ℕ) (es : List Edge) (small : Small n es) where
   pub reaches-decides : (u v : ℕ) → u < n → v < n → Decides (reaches n (least-delays n es) u v) (Reaches es u v)
@@ -91,16 +86,6 @@ module _ (n : ℕ) (es : List Edge) (small : Small n es) where
       λ s. decides-not _ (one-group-decides u hu) .1 (λ all. s .3 (all (s .0) (s .1) (s .2))))
 
   module _ (u : ℕ) (hu : u < n) (self : Reaches es u u) where
-    -- whoever reaches an entry group is in it
-    into-entry : Entry es u → {w x t : ℕ} → Path es w x t → Group es u x → Group es u w
-    into-entry entry (last {u = w} {v = x} {d = d} h) g = entry (edge w x d) h g
-    into-entry entry (step {u = w} {w = x} d h p) g = entry (edge w x d) h (into-entry entry p g)
-
-    -- whoever is reached from an exit group is in it
-    out-of-exit : Exit es u → {w x t : ℕ} → Path es w x t → Group es u w → Group es u x
-    out-of-exit exit (last {u = w} {v = x} {d = d} h) g = exit (edge w x d) h g
-    out-of-exit exit (step {u = w} {w = x} d h p) g = out-of-exit exit p (exit (edge w x d) h g)
-
     -- a group is an entry group if whoever reaches it is reached from it
     pub entry-by-answers : Decides (end-group at-entry n (least-delays n es) u) ((w : ℕ) → w < n → Reaches es w u → Reaches es u w)
     unfolding end-group

@@ -7,6 +7,7 @@ use native.Mathlib.Omega.{arith}
 use Rattle.std.specs.Iters.{counting}
 use Rattle.std.proofs.shelf.Tests.{cases-order}
 use Rattle.planning.specs.Backs.{first-of, last-of}
+use Rattle.meaning.specs.Components.{Among, Rises}
 
 abbrev pub Has : {X : Type 0} → X → List X → Type 0
 Has x [] = ⊥
@@ -38,16 +39,26 @@ counting-has a zero i h = absurd h
 counting-has a (suc k) i (inl e) = omega arith
 counting-has a (suc k) i (inr h) = omega (arith, counting-has (a + 1) k i h)
 
+pub has-among : (u : ℕ) (us : List ℕ) → Has u us → Among u us
+has-among u [] h = absurd h
+has-among u (v ∷ us) (inl e) = inl e
+has-among u (v ∷ us) (inr h) = inr (has-among u us h)
+
+pub among-has : (u : ℕ) (us : List ℕ) → Among u us → Has u us
+among-has u [] h = absurd h
+among-has u (v ∷ us) (inl e) = inl e
+among-has u (v ∷ us) (inr h) = inr (among-has u us h)
+
 -- from a on, each above the one before
-abbrev pub Rising : ℕ → List ℕ → Type 0
-Rising a [] = Unit {0}
-Rising a (x ∷ xs) = (a ≤ x) × Rising (suc x) xs
+abbrev pub Rising-from : ℕ → List ℕ → Type 0
+Rising-from a [] = Unit {0}
+Rising-from a (x ∷ xs) = (a ≤ x) × Rising-from (suc x) xs
 
-pub rising-from : (a b : ℕ) (xs : List ℕ) → a ≤ b → Rising b xs → Rising a xs
-rising-from a b [] l r = tt
-rising-from a b (x ∷ xs) l r = (omega (arith, r .0), r .1)
+pub rises-from : (a : ℕ) (xs : List ℕ) → Rises xs → ((x : ℕ) → Among x xs → a ≤ x) → Rising-from a xs
+rises-from a [] r low = tt
+rises-from a (x ∷ xs) r low = (low x (inl refl), rises-from (suc x) xs (r .1) (λ y i. r .0 y i))
 
-pub rising-low : (a : ℕ) (xs : List ℕ) (x : ℕ) → Rising a xs → Has x xs → a ≤ x
+pub rising-low : (a : ℕ) (xs : List ℕ) (x : ℕ) → Rising-from a xs → Has x xs → a ≤ x
 rising-low a [] x r h = absurd h
 rising-low a (y ∷ xs) x r (inl e) = omega (arith, r .0)
 rising-low a (y ∷ xs) x r (inr h) = omega (arith, r .0, rising-low (suc y) xs x (r .1) h)
@@ -64,14 +75,14 @@ next-has u w (x ∷ []) h = absurd h
 next-has u w (x ∷ y ∷ xs) (inl e) = (inl (e .0), inr (inl (e .1)))
 next-has u w (x ∷ y ∷ xs) (inr h) = let r = next-has u w (y ∷ xs) h in (inr (r .0), inr (r .1))
 
-pub next-rises : (a u w : ℕ) (xs : List ℕ) → Rising a xs → Next u w xs → u < w
+pub next-rises : (a u w : ℕ) (xs : List ℕ) → Rising-from a xs → Next u w xs → u < w
 next-rises a u w [] r h = absurd h
 next-rises a u w (x ∷ []) r h = absurd h
 next-rises a u w (x ∷ y ∷ xs) r (inl e) = omega (arith, r .1 .0, e .0, e .1)
 next-rises a u w (x ∷ y ∷ xs) r (inr h) = next-rises (suc x) u w (y ∷ xs) (r .1) h
 
 -- nothing lies between u and what follows directly on it
-pub next-apart : (a u w : ℕ) (xs : List ℕ) → Rising a xs → Next u w xs → (x : ℕ) → Has x xs → (x ≤ u) ⊎ (w ≤ x)
+pub next-apart : (a u w : ℕ) (xs : List ℕ) → Rising-from a xs → Next u w xs → (x : ℕ) → Has x xs → (x ≤ u) ⊎ (w ≤ x)
 next-apart a u w [] r h x i = absurd h
 next-apart a u w (y ∷ []) r h x i = absurd h
 next-apart a u w (y ∷ z ∷ xs) r (inl e) x (inl q) = inl (omega (arith, e .0))
@@ -79,7 +90,7 @@ next-apart a u w (y ∷ z ∷ xs) r (inl e) x (inr i) = inr (omega (arith, e .1,
 next-apart a u w (y ∷ z ∷ xs) r (inr h) x (inl q) = inl (omega (arith, rising-low (suc y) (z ∷ xs) u (r .1) (next-has u w (z ∷ xs) h .0)))
 next-apart a u w (y ∷ z ∷ xs) r (inr h) x (inr i) = next-apart (suc y) u w (z ∷ xs) (r .1) h x i
 
-module _ (a : ℕ) (xs : List ℕ) (r : Rising a xs) where
+module _ (a : ℕ) (xs : List ℕ) (r : Rising-from a xs) where
   pub one-before : (u v w : ℕ) → Next u w xs → Next v w xs → u ≡ v
   one-before u v w h k =
       let p = next-rises a u w xs r h in let q = next-rises a v w xs r k in
@@ -107,11 +118,11 @@ last-has p x [] h = absurd h
 last-has p x (y ∷ []) h = inl refl
 last-has p x (y ∷ z ∷ xs) h = inr (last-has y z (z ∷ xs) (inl refl))
 
-pub first-lowest : (a p x : ℕ) (xs : List ℕ) → Rising a xs → Has x xs → first-of p xs ≤ x
+pub first-lowest : (a p x : ℕ) (xs : List ℕ) → Rising-from a xs → Has x xs → first-of p xs ≤ x
 first-lowest a p x [] r h = absurd h
 first-lowest a p x (y ∷ xs) r h = rising-low y (y ∷ xs) x (omega arith, r .1) h
 
-pub last-highest : (a p x : ℕ) (xs : List ℕ) → Rising a xs → Has x xs → x ≤ last-of p xs
+pub last-highest : (a p x : ℕ) (xs : List ℕ) → Rising-from a xs → Has x xs → x ≤ last-of p xs
 last-highest a p x [] r h = absurd h
 last-highest a p x (y ∷ []) r (inl e) = omega arith
 last-highest a p x (y ∷ []) r (inr h) = absurd h
