@@ -111,14 +111,6 @@ module _ {g : Ground} {es : List Edge} (known : Known g es) where
       (kind-rises lead p l hp (at-wants tabled p hp .0 t) b (part-kind g lead p b j) (sym (ap (λ (x : Edge). x .delay) q) ∙ z))
 
   module _ (lead : ℕ) (l : 1 ≤ lead) where
-    -- with the back links too, a delay-free path leads to no lower actor
-    pub backs-upward : {u v : ℕ} → Path (with-backs g lead es) u v 0 → height u ≤ height v
-    backs-upward p = free-upward es (back-edges g lead) height keeps (rises lead l) p
-
-    -- a delay-free path between actors of one height has no back link
-    pub backs-level : {u v : ℕ} → Path (with-backs g lead es) u v 0 → height u ≡ height v → Path es u v 0
-    backs-level p e = level-path es (back-edges g lead) height keeps (rises lead l) p e
-
     -- the back links create no delay-free cycle
     pub backs-live : Live es → Live (with-backs g lead es)
     backs-live live = live-with es (back-edges g lead) height keeps (rises lead l) live

@@ -16,9 +16,9 @@ use Rattle.waits.proofs.Paths.{in-++}
 use Rattle.planning.specs.declared.End.{End}
 use Rattle.planning.specs.declared.End.the-variants.{Entry, Exit}
 use Rattle.planning.specs.Backs.{Ground, count, stand, groups-of, back-link, closing, first-of, last-of}
-use Rattle.meaning.specs.Components.{Reaches, Group, Joined}
+use Rattle.meaning.specs.Components.{Reaches, Group, Joined, on as joined-on}
 use Rattle.meaning.proofs.Known.{Known}
-use Rattle.meaning.proofs.Joins.{reaches-joins, joined-back, joined-on}
+use Rattle.meaning.proofs.Joins.{reaches-joins, joined-back}
 use Rattle.meaning.proofs.Grounds.{Tabled, known-tabled, Ends, Head, Wants, group, at-group}
 use Rattle.meaning.proofs.Openers.{lowest-once, parts-classes}
 use Rattle.meaning.proofs.Rising.{Has, has-++, has-left, has-right, Next, next-has, next-rises, first-lowest, last-highest, one-before, one-after}
@@ -205,10 +205,3 @@ module _ {g : Ground} {es : List Edge} (known : Known g es) (lead : ℕ) where
             (subst (λ x. In x (back-edges g lead)) (sym z) (map-in (all-backs g lead) c (subst (λ bs. Has c bs) (sym q) (skips xs ys b c h)))) ]
       found : In (link-edge b) (es ++ map link-edge (xs ++ ys))
       found = backs-in b here (es ++ map link-edge (xs ++ ys)) sub l
-
-  -- the same, by the place's number
-  pub backs-needed-at : (j : ℕ) (d : Link) → j < length (all-backs g lead)
-      → Reaches (es ++ map link-edge (take j (all-backs g lead) ++ drop (j + 1) (all-backs g lead))) (getD (all-backs g lead) j d .sender) (getD (all-backs g lead) j d .receiver) → ⊥
-  backs-needed-at j d h =
-      backs-needed (take j (all-backs g lead)) (drop (j + 1) (all-backs g lead)) (getD (all-backs g lead) j d)
-      (sym (take-append-drop j (all-backs g lead)) ∙ ap (λ bs. take j (all-backs g lead) ++ bs) (drop-more (all-backs g lead) j d h))

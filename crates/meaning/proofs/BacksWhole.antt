@@ -15,9 +15,9 @@ use Rattle.planning.specs.declared.End.{End}
 use Rattle.planning.specs.declared.End.the-variants.{Entry, Exit}
 use Rattle.planning.specs.Groups.{same-part}
 use Rattle.planning.specs.Backs.{Ground, count, stand, groups-of, backs-among, back-link, closing, first-of, last-of, wants-backs}
-use Rattle.meaning.specs.Components.{Reaches, Joined}
+use Rattle.meaning.specs.Components.{Reaches, Joined, on as joined-on}
 use Rattle.meaning.proofs.Known.{Known}
-use Rattle.meaning.proofs.Joins.{joined-back, joined-on}
+use Rattle.meaning.proofs.Joins.{joined-back}
 use Rattle.meaning.proofs.Groups.{reaches-on}
 use Rattle.meaning.proofs.Grounds.{Tabled, known-tabled, part, at-part}
 use Rattle.meaning.proofs.Openers.{opener, opener-below, opener-shares, opener-lowest, parts-classes}

@@ -5,10 +5,10 @@ use Rattle.records.specs.declared.tables.Edge.{Edge}
 use Rattle.planning.specs.declared.End.{End}
 use Rattle.planning.specs.declared.End.the-variants.{Entry, Exit}
 use Rattle.planning.specs.Backs.{Ground, count}
-use Rattle.meaning.specs.Components.{Reaches, Group, Joined}
+use Rattle.meaning.specs.Components.{Reaches, Group, Joined, on as joined-on}
 use Rattle.meaning.proofs.EndGroups.{entry-reaching, exit-reached}
 use Rattle.meaning.proofs.Groups.{reaches-on}
-use Rattle.meaning.proofs.Joins.{reaches-joins, joined-back, joined-on}
+use Rattle.meaning.proofs.Joins.{reaches-joins, joined-back}
 use Rattle.meaning.proofs.Grounds.{Tabled, Head, Ends, ends-shared}
 use Rattle.meaning.proofs.Openers.{opener-below, opener-shares, opener-lowest, groups-classes}
 use Rattle.meaning.proofs.Leaders.{low}

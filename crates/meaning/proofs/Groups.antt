@@ -72,7 +72,7 @@ module _ (n : ℕ) (es : List Edge) (small : Small n es) where
   unfolding opens-part
   lowest-of-part u hu = lowest-decides n u (same-part n (parts n es) u) (Joined es) hu (λ w h. part-decides u w hu h)
 
-  pub one-group-decides : (u : ℕ) → u < n → Decides (one-group n (least-delays n es) (parts n es) u) ((w : ℕ) → w < n → Joined es u w → Group es u w)
+  one-group-decides : (u : ℕ) → u < n → Decides (one-group n (least-delays n es) (parts n es) u) ((w : ℕ) → w < n → Joined es u w → Group es u w)
   unfolding one-group
   one-group-decides u hu = below-decides _ (λ w. Joined es u w → Group es u w) n (λ w h. decides-if _ _ (part-decides u w hu h) (group-decides u w hu h))
 
@@ -87,11 +87,11 @@ module _ (n : ℕ) (es : List Edge) (small : Small n es) where
 
   module _ (u : ℕ) (hu : u < n) (self : Reaches es u u) where
     -- a group is an entry group if whoever reaches it is reached from it
-    pub entry-by-answers : Decides (end-group at-entry n (least-delays n es) u) ((w : ℕ) → w < n → Reaches es w u → Reaches es u w)
+    entry-by-answers : Decides (end-group at-entry n (least-delays n es) u) ((w : ℕ) → w < n → Reaches es w u → Reaches es u w)
     unfolding end-group
     entry-by-answers = below-decides _ (λ w. Reaches es w u → Reaches es u w) n (λ w h. decides-if _ _ (reaches-decides w u h hu) (reaches-decides u w hu h))
 
-    pub exit-by-answers : Decides (end-group at-exit n (least-delays n es) u) ((w : ℕ) → w < n → Reaches es u w → Reaches es w u)
+    exit-by-answers : Decides (end-group at-exit n (least-delays n es) u) ((w : ℕ) → w < n → Reaches es u w → Reaches es w u)
     unfolding end-group
     exit-by-answers = below-decides _ (λ w. Reaches es u w → Reaches es w u) n (λ w h. decides-if _ _ (reaches-decides u w hu h) (reaches-decides w u h hu))
 

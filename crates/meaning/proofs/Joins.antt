@@ -23,9 +23,6 @@ joined-back (along d h) = against d h
 joined-back (against d h) = along d h
 joined-back (on p q) = on (joined-back q) (joined-back p)
 
-pub joined-on : {es : List Edge} {u w v : ℕ} → Joined es u w → Joined es w v → Joined es u v
-joined-on p q = on p q
-
 -- what an edge hands on, either way, is handed on to all that are joined
 pub handed-on : (es : List Edge) (C : ℕ → Type 0) → ((x y d : ℕ) → In (edge x y d) es ⊎ In (edge y x d) es → C x → C y) → {u v : ℕ} → Joined es u v → C u → C v
 handed-on es C hand (along {u} {v} d i) c = hand u v d (inl i) c

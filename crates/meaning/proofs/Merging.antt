@@ -14,12 +14,13 @@ use Rattle.records.specs.declared.tables.Link.{Link}
 use Rattle.records.specs.Tables.{edge, link-edge, processor-of}
 use Rattle.waits.specs.Counting.{count}
 use Rattle.waits.specs.Events.{In}
+use Rattle.waits.proofs.Counting
 use Rattle.planning.specs.Groups.{opens-group, opens-part}
 use Rattle.planning.specs.Marks.{local}
 use Rattle.planning.specs.Backs.{Ground, backs-among}
 use Rattle.meaning.specs.Components.{Group, Joined}
 use Rattle.meaning.proofs.Known.{Known}
-use Rattle.meaning.proofs.Tallies.{count-le, count-but-one, count-images}
+use Rattle.meaning.proofs.Tallies.{count-le, count-but-one}
 use Rattle.meaning.proofs.Joins.{handed-on}
 use Rattle.meaning.proofs.Grounds.{Tabled, known-tabled, group, part, group-round, at-group, at-opens-group, at-opens-part}
 use Rattle.meaning.proofs.Openers.{opener, opener-below, opener-shares, opener-lowest, opener-equal, lowest-opener, groups-classes, parts-classes}
@@ -144,7 +145,7 @@ module _ (g : Ground) (es : List Edge) (known : Known g es) where
         eq-eqb (first u) u (lowest-opener (groups-classes tabled) u h (at-opens-group tabled u h .0 t)))
 
     named-parts : count (names final) n ≤ parts g
-    named-parts = count-images (names final) (λ u. opens-part n (g .joined) u) final n n (λ e h t.
+    named-parts = Counting.counting (names final) (λ u. opens-part n (g .joined) u) final n n (λ e h t.
         let classes = parts-classes tabled in
         let j = opener n (part g) e in
         (j, opener-below classes e h, at-opens-part tabled j (opener-below classes e h) .1 (opener-lowest classes e h),

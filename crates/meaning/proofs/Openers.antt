@@ -13,9 +13,9 @@ use Rattle.waits.proofs.Counting.{counting}
 use Rattle.records.specs.Tables.{processor-of}
 use Rattle.planning.specs.Groups.{opens-group, opens-part}
 use Rattle.planning.specs.Backs.{Ground, count}
-use Rattle.meaning.specs.Components.{Group, Joined, Lowest}
+use Rattle.meaning.specs.Components.{Group, Joined, on as joined-on, Lowest}
 use Rattle.meaning.proofs.Known.{Known}
-use Rattle.meaning.proofs.Joins.{reaches-joins, joined-back, joined-on}
+use Rattle.meaning.proofs.Joins.{reaches-joins, joined-back}
 use Rattle.meaning.proofs.Groups.{group-on, group-back}
 use Rattle.meaning.proofs.Grounds.{Tabled, known-tabled, group, part, group-round, at-group, at-part, at-opens-group, at-opens-part}
 use Rattle.meaning.proofs.Tallies.{lowest, Found, lowest-found}
@@ -72,7 +72,7 @@ module _ {g : Ground} {es : List Edge} (t : Tabled g es) where
     decides = at-part t;
     itself = λ u h. reaches-joins (t .self u h);
     flip = λ u v. joined-back;
-    through = λ u w v. joined-on;
+    through = λ u w v p q. joined-on p q;
   }
 
   -- who opens a part opens a group

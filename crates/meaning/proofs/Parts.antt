@@ -10,8 +10,8 @@ use Rattle.records.specs.declared.tables.Edge.{Edge}
 use Rattle.records.specs.Tables.{edge}
 use Rattle.waits.specs.Events.{In}
 use Rattle.planning.specs.Backs.{Ground, count, wants-backs}
-use Rattle.meaning.specs.Components.{Group, Joined, Entry, Exit, Lowest}
-use Rattle.meaning.proofs.Joins.{joined-back, joined-on, handed-on}
+use Rattle.meaning.specs.Components.{Group, Joined, on as joined-on, Entry, Exit, Lowest}
+use Rattle.meaning.proofs.Joins.{joined-back, handed-on}
 use Rattle.meaning.proofs.Groups.{group-on, group-back}
 use Rattle.meaning.proofs.Grounds.{Tabled, Wants, group, at-group, at-wants}
 

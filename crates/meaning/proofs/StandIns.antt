@@ -70,10 +70,3 @@ module _ (actors : List Actor) (es : List Edge) (small : Small (length actors) e
     stand-in-stands =
         let s = seen (length actors) (omega arith) in
         record { below = s .below; inside = s .inside; least = λ x h i. s .least x h h i; lowest = λ x h i q. s .lowest x h h i q }
-
--- only one actor stands for a group
-pub stands-one : (actors : List Actor) (es : List Edge) (u v w : ℕ) → Stands actors es u v → Stands actors es u w → v ≡ w
-stands-one actors es u v w a b =
-    let there = a .least w (b .below) (b .inside) in
-    let back = b .least v (a .below) (a .inside) in
-    omega (arith, a .lowest w (b .below) (b .inside) (omega arith), b .lowest v (a .below) (a .inside) (omega arith))

@@ -107,7 +107,3 @@ count-but-one p q r (suc k) h =
       let i = count-but-one p q r k (λ i l t. h i (omega arith) t) in
       ⊎-elim (λ (t : p k ≡ true). rw (t, h k (omega arith) t ne) (omega arith)) (λ (t : p k ≡ false). rw t (omega arith)) (cases-bool (p k)))
     (cases-eq k r)
-
--- at most as many pass p as pass q where each that passes p is the image of one that passes q
-pub count-images : (p q : ℕ → Bool) (h : ℕ → ℕ) (k m : ℕ) → ((e : ℕ) → e < k → p e ≡ true → (j : ℕ) × (j < m) × (q j ≡ true) × (h j ≡ e)) → count p k ≤ count q m
-count-images p q h k m s = counting p q h k m s

@@ -14,9 +14,9 @@ use Rattle.records.specs.Tables.{link-edge}
 use Rattle.planning.specs.declared.End.{End}
 use Rattle.planning.specs.declared.End.the-variants.{Entry, Exit}
 use Rattle.planning.specs.Backs.{Ground, count, stand, groups-of, back-link, chain, closing, first-of, last-of, part-backs, wants-backs, backs-among}
-use Rattle.meaning.specs.Components.{Group, Joined}
+use Rattle.meaning.specs.Components.{Group, Joined, on as joined-on}
 use Rattle.meaning.proofs.Known.{Known}
-use Rattle.meaning.proofs.Joins.{reaches-joins, joined-back, joined-on}
+use Rattle.meaning.proofs.Joins.{reaches-joins, joined-back}
 use Rattle.meaning.proofs.Grounds.{Tabled, known-tabled, Ends, Head, Wants, at-wants}
 use Rattle.meaning.proofs.Openers.{lowest-once, parts-classes}
 use Rattle.meaning.proofs.Rising.{Has, has-++, counting-has, Rising-from, rising-low, Next, next-has, next-rises, first-has, last-has, first-lowest, last-highest}
