@@ -1,6 +1,6 @@
 -- Back links join actors of the drawing, with delay 0 or the lead, and are marked as back links.
-use mathlib.Core.Path.{_≡_, refl, ap, sym, subst, _∙_}
-use mathlib.Core.Bool.{Bool, cond, _&&_}
+use mathlib.Core.Path.{_≡_, refl}
+use mathlib.Core.Bool.{cond}
 use mathlib.Core.List.{List, [], _∷_, _++_}
 use Prim.Native.Nat.{ℕ, zero, suc, _+_, _<_, _≤_}
 use native.Mathlib.Omega.{arith}
@@ -16,7 +16,7 @@ use Rattle.records.specs.Tables.{no-link}
 use Rattle.paths.specs.declared.delay.Delay.{Delay}
 use Rattle.planning.specs.declared.End.{End}
 use Rattle.planning.specs.declared.End.the-variants.{Entry, Exit}
-use Rattle.planning.specs.Backs.{Ground, count, heads, stand, heads-among, link-from, chain, first-of, last-of, groups-of, closing, part-backs, wants-backs, backs-among, backs}
+use Rattle.planning.specs.Backs.{Ground, count, heads, stand, heads-among, chain, first-of, last-of, groups-of, closing, part-backs, wants-backs, backs-among, backs}
 use Rattle.planning.specs.Groups.{stands-better, stand-below, stand-in}
 
 abbrev pub Fine-link : ℕ → Link → Type 0

@@ -1,25 +1,20 @@
 -- The planner's back links, uncut, are the back links in the words of the subject.
-use mathlib.Core.Path.{_≡_, refl, ap, sym, subst, _∙_}
-use mathlib.Core.Bool.{Bool, true, false, cond, not, _&&_}
+use mathlib.Core.Path.{_≡_, refl, ap, subst, _∙_}
 use mathlib.Core.List.{List, [], _∷_, _++_, map}
-use mathlib.Core.Logic.{_⊎_, inl, inr}
+use mathlib.Core.Logic.{inl, inr}
 use Prim.Native.Nat.{ℕ, zero, suc, _+_, _<_, _≤_}
 use native.Mathlib.Omega.{arith}
 use lib.ListN.{length}
 use Rattle.std.specs.Iters.{counting}
-use Rattle.std.specs.Orderings.{Decides}
-use Rattle.std.specs.declared.option.Option.{Option}
 use Rattle.std.specs.declared.option.Option.the-variants.{Some, None}
 use Rattle.std.proofs.shelf.Lists.{map-append}
 use Rattle.std.proofs.shelf.Tests.{cases-bool}
-use Rattle.std.proofs.shelf.Ways.{decides-and, decides-like}
 use Rattle.records.specs.declared.tables.Actor.{Actor}
 use Rattle.records.specs.declared.tables.Edge.{Edge}
 use Rattle.records.specs.Tables.{edge, link-edge}
 use Rattle.planning.specs.declared.End.{End}
 use Rattle.planning.specs.declared.End.the-variants.{Entry as at-entry, Exit as at-exit}
-use Rattle.planning.specs.Backs.{Ground, heads, stand, heads-among, chain, first-of, last-of, groups-of, closing, part-backs, wants-backs, backs-among}
-use Rattle.planning.specs.Groups.{end-group, same-group}
+use Rattle.planning.specs.Backs.{Ground, stand, chain, first-of, last-of, groups-of, closing, part-backs, wants-backs, backs-among}
 use Rattle.planning.specs.Tables.{least-delays, parts}
 use Rattle.meaning.specs.Components.{Reaches, Group, Joined, Lowest, Among, Rising, chained, Part-links, In-turn, Back-links}
 use Rattle.meaning.proofs.Reaching.{Small}

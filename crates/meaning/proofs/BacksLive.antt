@@ -9,7 +9,7 @@ use Rattle.std.specs.Iters.{counting}
 use Rattle.std.proofs.shelf.Tests.{cases-bool, cond-true, cond-false, both-ways}
 use Rattle.records.specs.declared.tables.Edge.{Edge}
 use Rattle.records.specs.declared.tables.Link.{Link}
-use Rattle.waits.specs.Events.{In, Path, last, Live}
+use Rattle.waits.specs.Events.{In, last, Live}
 use Rattle.planning.specs.declared.End.the-variants.{Entry, Exit}
 use Rattle.planning.specs.Groups.{end-group}
 use Rattle.planning.specs.Backs.{Ground, count, stand, groups-of, backs-among}
@@ -23,7 +23,7 @@ use Rattle.meaning.proofs.Leaders.{low, stand-under, stand-mate, stand-low, st
 use Rattle.meaning.proofs.LinkKinds.{in-map, Kind, part-kind, backs-back}
 use Rattle.meaning.proofs.Parts.{ends-apart}
 use Rattle.meaning.proofs.BackEdges.{back-edges, with-backs}
-use Rattle.meaning.proofs.Potentials.{free-upward, level-path, live-with}
+use Rattle.meaning.proofs.Potentials.{live-with}
 
 module _ {g : Ground} {es : List Edge} (known : Known g es) where
   abbrev tabled : Tabled g es

@@ -1,7 +1,7 @@
 -- The edges of a drawing that passed the checks of its tables.
-use mathlib.Core.Path.{_≡_, refl, ap, sym, subst, _∙_}
+use mathlib.Core.Path.{_≡_, refl, sym, subst}
 use mathlib.Core.List.{List, [], _∷_, _++_, map}
-use mathlib.Core.Logic.{_⊎_, inl, inr}
+use mathlib.Core.Logic.{inl, inr}
 use Prim.Native.Nat.{ℕ, zero, suc, _<_, _≤_}
 use native.Mathlib.Omega.{arith}
 use lib.ListN.{length, getD, take}
@@ -9,9 +9,9 @@ use Rattle.std.specs.declared.result.Result.the-variants.{Ok}
 use Rattle.records.specs.declared.tables.Actor.{Actor}
 use Rattle.records.specs.declared.tables.Edge.{Edge}
 use Rattle.records.specs.declared.tables.Link.{Link}
-use Rattle.records.specs.Tables.{no-link, link-edge, processor-of}
+use Rattle.records.specs.Tables.{no-link, link-edge}
 use Rattle.waits.specs.Drawings.{Order}
-use Rattle.waits.specs.Events.{In, Within}
+use Rattle.waits.specs.Events.{In}
 use Rattle.waits.proofs.Paths.{in-++}
 use Rattle.planning.specs.Edges.{orders}
 use Rattle.planning.specs.Planning.{Given, tables-check, base-edges}

@@ -6,7 +6,7 @@ use native.Mathlib.Nat.{zero-add}
 use native.Mathlib.Omega.{arith}
 use lib.ListN.{length, getD, take}
 use Rattle.std.specs.declared.result.Result.the-variants.{Ok}
-use Rattle.std.proofs.shelf.Lists.{getD-append-left, getD-append-right, getD-map, length-append, length-map}
+use Rattle.std.proofs.shelf.Lists.{getD-append-left, getD-append-right, getD-map, length-append}
 use Rattle.records.specs.declared.tables.Edge.{Edge}
 use Rattle.records.specs.declared.tables.Link.{Link}
 use Rattle.records.specs.Tables.{no-link, edge, link-edge}
@@ -83,7 +83,3 @@ module _ (d : Given) where
         ap (λ l. l .mark) (link-at i h) ∙ ap (λ l. l .mark) (back-link-at i ge)
         ∙ ap (λ l. l .mark) (getD-append-right (take (d .given) (d .links)) (back-links d) (length (take (d .given) (d .links))) i no-link refl ge)
         ∙ fine-at (length (d .actors)) (back-links d) (backs-fine (ground d) (d .lead) (passed d ok .lead-high)) (i - length (take (d .given) (d .links))) (omega (arith, all-long)) .1
-
-    pub back-size : (i : ℕ) → length (take (d .given) (d .links)) ≤ i → i < length (all-links d)
-        → getD (plan-links d) i no-link .size ≡ size-of (length (d .actors)) (plan-delays d) (getD (all-links d) i no-link)
-    back-size i ge h = ap (λ l. l .size) (link-at i h) ∙ ap (size-of (length (d .actors)) (plan-delays d)) (back-link-at i ge)

@@ -1,20 +1,19 @@
 -- The yes/no table of delay-free edges tells which closed paths have total delay 0.
 use mathlib.Core.Path.{_≡_, refl, ap, sym, subst, _∙_}
-use mathlib.Core.Bool.{Bool, true, false, _&&_, _||_}
+use mathlib.Core.Bool.{Bool, true, false, _||_}
 use mathlib.Core.List.{List, [], _∷_}
-use mathlib.Core.Logic.{_⊎_, ⊎-elim}
-use Prim.Native.Nat.{ℕ, _+_, _*_, _<_, _≤_}
+use mathlib.Core.Logic.{⊎-elim}
+use Prim.Native.Nat.{ℕ, _*_, _<_}
 use native.Mathlib.Omega.{arith}
-use lib.Dec.{eqb}
-use lib.ListN.{length, replicate}
+use lib.ListN.{replicate}
 use Rattle.std.proofs.shelf.Lists.{length-replicate}
-use Rattle.std.proofs.shelf.Tests.{and-parts, and-from, or-cases, eqb-true, eq-eqb, both-ways}
+use Rattle.std.proofs.shelf.Tests.{and-parts, and-from, eqb-true, eq-eqb, both-ways}
 use Rattle.records.specs.declared.tables.Edge.{Edge}
 use Rattle.records.specs.Tables.{edge}
 use Rattle.waits.specs.Events.{In, Within, Path, last, step}
 use Rattle.waits.proofs.Paths.{path-joined}
 use Rattle.paths.specs.Closure.{entry}
-use Rattle.paths.specs.Models.{reach, reach-ops, reach-laws}
+use Rattle.paths.specs.Models.{reach-ops, reach-laws}
 use Rattle.paths.specs.Walks.{walk-value, Below}
 use Rattle.paths.specs.declared.reach.Reach.{Reach}
 use Rattle.paths.proofs.Bests.{chosen}

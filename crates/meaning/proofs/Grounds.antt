@@ -10,7 +10,7 @@ use Rattle.records.specs.Tables.{processor-of}
 use Rattle.planning.specs.declared.End.{End}
 use Rattle.planning.specs.declared.End.the-variants.{Entry as at-entry, Exit as at-exit}
 use Rattle.planning.specs.Tables.{least-delays, parts}
-use Rattle.planning.specs.Groups.{same-group, same-part, end-group, opens-group, opens-part, one-group}
+use Rattle.planning.specs.Groups.{same-group, same-part, end-group, opens-group, opens-part}
 use Rattle.planning.specs.Backs.{Ground, count, heads, wants-backs}
 use Rattle.meaning.specs.Components.{Reaches, Group, Joined, Entry, Exit, Lowest, Several}
 use Rattle.meaning.proofs.Known.{Known}

@@ -1,6 +1,6 @@
 -- The planner's tests of groups and parts decide what they are in the words of the subject.
 use mathlib.Core.Path.{refl}
-use mathlib.Core.Bool.{Bool, true, false, not, _&&_, _||_}
+use mathlib.Core.Bool.{Bool, true, false, not, _||_}
 use mathlib.Core.List.{List}
 use mathlib.Core.Logic.{inl, inr}
 use Prim.Native.Nat.{ℕ, _+_, _<_}
@@ -10,10 +10,10 @@ use Rattle.std.proofs.shelf.Tests.{cases-lt, or-parts, not-false, not-true, fal
 use Rattle.std.proofs.shelf.Ways.{decides-and, decides-not, decides-like, not-from-decides}
 use Rattle.records.specs.declared.tables.Edge.{Edge}
 use Rattle.records.specs.Tables.{edge}
-use Rattle.waits.specs.Events.{In, Path, last, step}
+use Rattle.waits.specs.Events.{Path, last, step}
 use Rattle.waits.proofs.Paths.{path-joined}
 use Rattle.planning.specs.declared.End.the-variants.{Entry as at-entry, Exit as at-exit}
-use Rattle.planning.specs.Groups.{all-below, reaches, same-group, same-part, answered, end-group, opens-group, opens-part, grouped-if-joined, one-group}
+use Rattle.planning.specs.Groups.{all-below, reaches, same-group, same-part, end-group, opens-group, opens-part, grouped-if-joined, one-group}
 use Rattle.planning.specs.Tables.{least-delays, parts}
 use Rattle.meaning.specs.Components.{Reaches, Group, Joined, Entry, Exit, Lowest, Several}
 use Rattle.meaning.proofs.Reaching.{Small, reaches-path, path-reaches}

@@ -1,10 +1,10 @@
 -- The entries of a table into which edges were laid: each is the choice over the edges between its actors.
 use mathlib.Core.Path.{_≡_, refl, ap, sym, subst, _∙_}
 use mathlib.Core.List.{List, [], _∷_}
-use mathlib.Core.Logic.{_⊎_, inl, inr, ⊎-elim, _≢_}
+use mathlib.Core.Logic.{_⊎_, inl, inr, ⊎-elim}
 use Prim.Native.Nat.{ℕ, _+_, _*_, _/_, _%_, _<_, _≤_}
 use native.Mathlib.Omega.{arith}
-use lib.ListN.{length, getD, set, replicate}
+use lib.ListN.{length, getD, replicate}
 use Rattle.std.proofs.shelf.Bits.{mul-add-lt, div-mul-add, mod-mul-add}
 use Rattle.std.proofs.shelf.Lists.{getD-set-same, getD-set-other, getD-replicate, length-replicate, length-set}
 use Rattle.std.proofs.shelf.Tests.{cases-eq}

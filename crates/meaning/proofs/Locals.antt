@@ -1,14 +1,14 @@
 -- A local link of a drawing that can run is enforced by its processor's order alone.
-use mathlib.Core.Path.{_≡_, refl, sym, subst, _∙_}
+use mathlib.Core.Path.{_≡_, sym, subst}
 use mathlib.Core.List.{List}
-use mathlib.Core.Logic.{_⊎_, ⊎-elim}
-use Prim.Native.Nat.{ℕ, zero, suc, _+_, _<_, _≤_}
+use mathlib.Core.Logic.{⊎-elim}
+use Prim.Native.Nat.{ℕ, _<_, _≤_}
 use native.Mathlib.Omega.{arith}
 use lib.ListN.{length}
 use Rattle.std.proofs.shelf.Tests.{cases-lt, cases-eq}
 use Rattle.records.specs.declared.tables.Actor.{Actor}
 use Rattle.records.specs.declared.tables.Edge.{Edge}
-use Rattle.records.specs.Tables.{edge, processor-of}
+use Rattle.records.specs.Tables.{processor-of}
 use Rattle.waits.specs.Events.{In, Path, last, Live}
 use Rattle.waits.proofs.Paths.{path-joined, path-over-more}
 use Rattle.planning.specs.Edges.{orders}

@@ -1,13 +1,13 @@
 -- The numbers that pass a test, rising.
-use mathlib.Core.Path.{_≡_, refl, ap, sym, subst}
+use mathlib.Core.Path.{_≡_, sym, subst}
 use mathlib.Core.Bool.{Bool, true, cond}
 use mathlib.Core.List.{List, [], _∷_}
-use mathlib.Core.Logic.{_⊎_, inl, inr}
+use mathlib.Core.Logic.{inl, inr}
 use Prim.Native.Nat.{ℕ, zero, suc, _+_, _<_, _≤_}
 use native.Mathlib.Omega.{arith}
 use Rattle.std.specs.Iters.{counting}
 use Rattle.std.specs.Orderings.{Decides}
-use Rattle.std.proofs.shelf.Tests.{cases-bool, cases-eq, cond-both, both-ways}
+use Rattle.std.proofs.shelf.Tests.{cases-eq, cond-both, both-ways}
 use Rattle.meaning.specs.Components.{Among, Rises, Rising}
 
 -- those of us that pass the test

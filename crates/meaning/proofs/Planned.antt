@@ -1,15 +1,14 @@
 -- The edges of an accepted drawing with its back links.
-use mathlib.Core.Path.{_≡_, refl, ap, sym, subst, _∙_}
-use mathlib.Core.List.{List, [], _∷_, _++_, map}
+use mathlib.Core.Path.{_≡_, refl, sym, subst}
+use mathlib.Core.List.{[]}
 use mathlib.Core.Logic.{⊎-elim}
-use Prim.Native.Nat.{ℕ, _+_, _-_, _<_, _≤_}
+use Prim.Native.Nat.{ℕ, _-_, _<_, _≤_}
 use native.Mathlib.Omega.{arith}
 use lib.ListN.{length, getD, take}
 use Rattle.std.specs.declared.result.Result.the-variants.{Ok}
 use Rattle.std.proofs.shelf.Lists.{getD-append-left, getD-append-right, length-append}
 use Rattle.std.proofs.shelf.Tests.{cases-lt}
-use Rattle.records.specs.declared.tables.Link.{Link}
-use Rattle.records.specs.Tables.{no-link, link-edge}
+use Rattle.records.specs.Tables.{no-link}
 use Rattle.planning.specs.Planning.{Given, tables-check, edges-with, ground, back-links, all-links}
 use Rattle.meaning.proofs.BackEnds.{Fine-link, fine-at, backs-fine}
 use Rattle.meaning.proofs.Drawn.{passed, small-with}

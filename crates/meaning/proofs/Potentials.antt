@@ -27,12 +27,8 @@ module _ (es fs : List Edge) (height : ℕ → ℕ)
           inl (q, m) ↦ inr (omega arith)
         | inr m ↦ inr (omega arith) ] ]
 
-  -- a delay-free path does not fall
-  pub free-upward : {u v : ℕ} → Path (es ++ fs) u v 0 → height u ≤ height v
-  free-upward {u} {v} p = elim (free-rises p refl) [ inl (q, m) ↦ m | inr m ↦ omega arith ]
-
   -- one between actors of one height is a path over the old edges
-  pub level-path : {u v : ℕ} → Path (es ++ fs) u v 0 → height u ≡ height v → Path es u v 0
+  level-path : {u v : ℕ} → Path (es ++ fs) u v 0 → height u ≡ height v → Path es u v 0
   level-path {u} {v} p e = elim (free-rises p refl) [ inl (q, m) ↦ q | inr m ↦ absurd (omega arith) ]
 
   -- the new edges create no delay-free cycle

@@ -1,16 +1,15 @@
 -- The dropping test finds a path exactly where there is one.
 use mathlib.Core.Path.{_≡_}
-use mathlib.Core.Bool.{Bool, true, false}
+use mathlib.Core.Bool.{true}
 use mathlib.Core.List.{List, _++_}
-use mathlib.Core.Logic.{_⊎_, inl, inr}
+use mathlib.Core.Logic.{inl, inr}
 use Prim.Native.Nat.{ℕ, _<_, _≤_}
 use native.Mathlib.Omega.{arith}
-use lib.Dec.{leb}
 use lib.ListN.{length}
 use Rattle.std.proofs.shelf.Tests.{leb-true, le-leb}
 use Rattle.records.specs.declared.tables.Actor.{Actor}
 use Rattle.records.specs.declared.tables.Edge.{Edge}
-use Rattle.waits.specs.Events.{In, Within, Path}
+use Rattle.waits.specs.Events.{Within, Path}
 use Rattle.waits.proofs.Paths.{in-++}
 use Rattle.planning.specs.Edges.{orders, without}
 use Rattle.planning.specs.Marks.{redundant}

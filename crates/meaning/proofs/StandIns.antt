@@ -1,16 +1,14 @@
 -- The actor that the planner lets stand for a group has its least estimate, and is the lowest that has it.
-use mathlib.Core.Path.{_≡_, refl, sym, subst}
-use mathlib.Core.Bool.{Bool, true, false, cond, _&&_}
+use mathlib.Core.Path.{_≡_, sym, subst}
 use mathlib.Core.List.{List}
 use mathlib.Core.Logic.{inl, inr}
 use Prim.Native.Nat.{ℕ, zero, suc, _<_, _≤_}
 use native.Mathlib.Omega.{arith}
-use lib.Dec.{ltb}
 use lib.ListN.{length}
 use Rattle.std.proofs.shelf.Tests.{cases-eq, cond-both, and-parts, and-cases, ltb-true, ltb-false, both-ways}
 use Rattle.records.specs.declared.tables.Actor.{Actor}
 use Rattle.records.specs.declared.tables.Edge.{Edge}
-use Rattle.planning.specs.Groups.{same-group, stands-better, stand-below, stand-in}
+use Rattle.planning.specs.Groups.{stands-better, stand-below, stand-in}
 use Rattle.planning.specs.Tables.{least-delays}
 use Rattle.meaning.specs.Components.{Reaches, Group, Lowest, Stands, estimate-of}
 use Rattle.meaning.proofs.Groups.{group-decides}
