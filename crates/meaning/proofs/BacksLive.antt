@@ -94,12 +94,12 @@ module _ {g : Ground} {es : List Edge} (known : Known g es) where
       let has = next-has u w (groups-of g Entry p) next in
       let a = entry-height p u (groups-head tabled Entry p hp u (has .0)) in
       let c = entry-height p w (groups-head tabled Entry p hp w (has .1)) in
-      subst (λ (x : Link). height (x .sender) < height (x .receiver)) (sym e) (omega (arith, next-rises 0 u w (groups-of g Entry p) (groups-rising tabled Entry p hp) next))
+      subst (λ (x : Link). height (x .sender) < height (x .receiver)) (sym e) (omega (arith, next-rises u w (groups-of g Entry p) (groups-rising tabled Entry p hp) next))
   kind-rises lead p l hp s b (inr (inl (u, w, next, e))) z =
       let has = next-has u w (groups-of g Exit p) next in
       let a = exit-height p u s (groups-head tabled Exit p hp u (has .0)) in
       let c = exit-height p w s (groups-head tabled Exit p hp w (has .1)) in
-      subst (λ (x : Link). height (x .sender) < height (x .receiver)) (sym e) (omega (arith, next-rises 0 u w (groups-of g Exit p) (groups-rising tabled Exit p hp) next))
+      subst (λ (x : Link). height (x .sender) < height (x .receiver)) (sym e) (omega (arith, next-rises u w (groups-of g Exit p) (groups-rising tabled Exit p hp) next))
   kind-rises lead p l hp s b (inr (inr e)) z = absurd (omega (arith, ap (λ (x : Link). x .delay) e))
 
   rises : (lead : ℕ) → 1 ≤ lead → (e : Edge) → In e (back-edges g lead) → e .delay ≡ 0 → height (e .sender) < height (e .receiver)

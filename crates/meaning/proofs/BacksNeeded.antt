@@ -137,8 +137,8 @@ module _ {g : Ground} {es : List Edge} (known : Known g es) (lead : ℕ) where
     where
       one : (c : Link) → Told tabled lead p c → Group es w (c .receiver) → c ≡ back-link (stand g u) (stand g w) 0
       one c t m = elim (into-entry p w s hw c t m) [
-          inl (v, k, e) ↦ e ∙ ap (λ x. back-link (stand g x) (stand g w) 0) (one-before 0 (groups-of g Entry p) (groups-rising tabled Entry p hp) v u w k n)
-        | inr (e, q) ↦ absurd (omega (arith, first-lowest 0 p u (groups-of g Entry p) (groups-rising tabled Entry p hp) (next-has u w (groups-of g Entry p) n .0))) ]
+          inl (v, k, e) ↦ e ∙ ap (λ x. back-link (stand g x) (stand g w) 0) (one-before (groups-of g Entry p) (groups-rising tabled Entry p hp) v u w k n)
+        | inr (e, q) ↦ absurd (omega (arith, first-lowest p u (groups-of g Entry p) (groups-rising tabled Entry p hp) (next-has u w (groups-of g Entry p) n .0))) ]
   cut p hp s _ (leaves u w n hu hw l) =
       record {
         end = Exit; head = u; under = hu .under; ends = hu .ends;
@@ -148,8 +148,8 @@ module _ {g : Ground} {es : List Edge} (known : Known g es) (lead : ℕ) where
     where
       one : (c : Link) → Told tabled lead p c → Group es u (c .sender) → c ≡ back-link (stand g u) (stand g w) 0
       one c t m = elim (out-of-exit p u s hu c t m) [
-          inl (v, k, e) ↦ e ∙ ap (λ x. back-link (stand g u) (stand g x) 0) (one-after 0 (groups-of g Exit p) (groups-rising tabled Exit p hp) u v w k n)
-        | inr (e, q) ↦ absurd (omega (arith, last-highest 0 p w (groups-of g Exit p) (groups-rising tabled Exit p hp) (next-has u w (groups-of g Exit p) n .1))) ]
+          inl (v, k, e) ↦ e ∙ ap (λ x. back-link (stand g u) (stand g x) 0) (one-after (groups-of g Exit p) (groups-rising tabled Exit p hp) u v w k n)
+        | inr (e, q) ↦ absurd (omega (arith, last-highest p w (groups-of g Exit p) (groups-rising tabled Exit p hp) (next-has u w (groups-of g Exit p) n .1))) ]
   cut p hp s _ (closes hu hw) =
       record {
         end = Entry; head = first-of p (groups-of g Entry p); under = hw .under; ends = hw .ends;
@@ -161,8 +161,8 @@ module _ {g : Ground} {es : List Edge} (known : Known g es) (lead : ℕ) where
     where
       one : (c : Link) → Told tabled lead p c → Group es (first-of p (groups-of g Entry p)) (c .receiver) → c ≡ closing g lead p
       one c t m = elim (into-entry p (first-of p (groups-of g Entry p)) s hw c t m) [
-          inl (v, k, e) ↦ absurd (omega (arith, next-rises 0 v (first-of p (groups-of g Entry p)) (groups-of g Entry p) (groups-rising tabled Entry p hp) k,
-            first-lowest 0 p v (groups-of g Entry p) (groups-rising tabled Entry p hp) (next-has v (first-of p (groups-of g Entry p)) (groups-of g Entry p) k .0)))
+          inl (v, k, e) ↦ absurd (omega (arith, next-rises v (first-of p (groups-of g Entry p)) (groups-of g Entry p) (groups-rising tabled Entry p hp) k,
+            first-lowest p v (groups-of g Entry p) (groups-rising tabled Entry p hp) (next-has v (first-of p (groups-of g Entry p)) (groups-of g Entry p) k .0)))
         | inr (e, q) ↦ q ]
 
   backs-cut : (b : Link) → Has b (all-backs g lead) → Cut b

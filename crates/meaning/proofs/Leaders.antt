@@ -2,18 +2,17 @@
 use mathlib.Core.Path.{_≡_, refl, sym, subst, _∙_}
 use mathlib.Core.List.{List, [], _∷_}
 use Prim.Native.Nat.{ℕ, _<_}
-use native.Mathlib.Omega.{arith}
 use Rattle.std.specs.Iters.{counting}
 use Rattle.records.specs.declared.tables.Edge.{Edge}
 use Rattle.planning.specs.declared.End.{End}
 use Rattle.planning.specs.Groups.{stand-in}
 use Rattle.planning.specs.Backs.{Ground, count, heads, heads-among, groups-of, stand}
-use Rattle.meaning.specs.Components.{Group, Lowest, Stands, Rising}
+use Rattle.meaning.specs.Components.{Group, Lowest, Stands, Rises, Rising}
 use Rattle.meaning.proofs.Grounds.{Tabled, Head, Ends, group, at-head, ends-shared}
 use Rattle.meaning.proofs.Openers.{opener, opener-equal, lowest-opener, groups-classes}
 use Rattle.meaning.proofs.Picked.{picked, picked-rising}
 use Rattle.meaning.proofs.StandIns.{stand-in-stands}
-use Rattle.meaning.proofs.Rising.{Has, Rising-from, has-among, among-has, rises-from}
+use Rattle.meaning.proofs.Rising.{Has, has-among, among-has}
 
 heads-picked : (g : Ground) (end : End) (p : ℕ) (us : List ℕ) → heads-among g end p us ≡ picked (heads g end p) us
 heads-picked g end p [] = refl
@@ -34,8 +33,8 @@ module _ {g : Ground} {es : List Edge} (tabled : Tabled g es) where
     pub head-groups : (u : ℕ) → Head g es end p u → Has u (groups-of g end p)
     head-groups u h = among-has u (groups-of g end p) (heads-rising end p hp .all u (h .under) h)
 
-    pub groups-rising : Rising-from 0 (groups-of g end p)
-    groups-rising = rises-from 0 (groups-of g end p) (heads-rising end p hp .rises) (λ u _. omega arith)
+    pub groups-rising : Rises (groups-of g end p)
+    groups-rising = heads-rising end p hp .rises
 
   pub stand-stands : (u : ℕ) → u < count g → Lowest (count g) (Group es) u → Stands (g .actors) es u (stand g u)
   stand-stands u h least =

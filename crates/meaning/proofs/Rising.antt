@@ -49,19 +49,10 @@ among-has u [] h = absurd h
 among-has u (v ∷ us) (inl e) = inl e
 among-has u (v ∷ us) (inr h) = inr (among-has u us h)
 
--- from a on, each above the one before
-abbrev pub Rising-from : ℕ → List ℕ → Type 0
-Rising-from a [] = Unit {0}
-Rising-from a (x ∷ xs) = (a ≤ x) × Rising-from (suc x) xs
-
-pub rises-from : (a : ℕ) (xs : List ℕ) → Rises xs → ((x : ℕ) → Among x xs → a ≤ x) → Rising-from a xs
-rises-from a [] r low = tt
-rises-from a (x ∷ xs) r low = (low x (inl refl), rises-from (suc x) xs (r .1) (λ y i. r .0 y i))
-
-pub rising-low : (a : ℕ) (xs : List ℕ) (x : ℕ) → Rising-from a xs → Has x xs → a ≤ x
-rising-low a [] x r h = absurd h
-rising-low a (y ∷ xs) x r (inl e) = omega (arith, r .0)
-rising-low a (y ∷ xs) x r (inr h) = omega (arith, r .0, rising-low (suc y) xs x (r .1) h)
+-- the first of a rising list is its lowest
+pub rises-low : (x : ℕ) (xs : List ℕ) → Rises (x ∷ xs) → (y : ℕ) → Has y (x ∷ xs) → x ≤ y
+rises-low x xs r y (inl e) = omega arith
+rises-low x xs r y (inr h) = omega (arith, r .0 y (has-among y xs h))
 
 -- w follows directly on u
 abbrev pub Next : ℕ → ℕ → List ℕ → Type 0
@@ -75,36 +66,36 @@ next-has u w (x ∷ []) h = absurd h
 next-has u w (x ∷ y ∷ xs) (inl e) = (inl (e .0), inr (inl (e .1)))
 next-has u w (x ∷ y ∷ xs) (inr h) = let r = next-has u w (y ∷ xs) h in (inr (r .0), inr (r .1))
 
-pub next-rises : (a u w : ℕ) (xs : List ℕ) → Rising-from a xs → Next u w xs → u < w
-next-rises a u w [] r h = absurd h
-next-rises a u w (x ∷ []) r h = absurd h
-next-rises a u w (x ∷ y ∷ xs) r (inl e) = omega (arith, r .1 .0, e .0, e .1)
-next-rises a u w (x ∷ y ∷ xs) r (inr h) = next-rises (suc x) u w (y ∷ xs) (r .1) h
+pub next-rises : (u w : ℕ) (xs : List ℕ) → Rises xs → Next u w xs → u < w
+next-rises u w [] r h = absurd h
+next-rises u w (x ∷ []) r h = absurd h
+next-rises u w (x ∷ y ∷ xs) r (inl e) = omega (arith, r .0 y (inl refl), e .0, e .1)
+next-rises u w (x ∷ y ∷ xs) r (inr h) = next-rises u w (y ∷ xs) (r .1) h
 
 -- nothing lies between u and what follows directly on it
-pub next-apart : (a u w : ℕ) (xs : List ℕ) → Rising-from a xs → Next u w xs → (x : ℕ) → Has x xs → (x ≤ u) ⊎ (w ≤ x)
-next-apart a u w [] r h x i = absurd h
-next-apart a u w (y ∷ []) r h x i = absurd h
-next-apart a u w (y ∷ z ∷ xs) r (inl e) x (inl q) = inl (omega (arith, e .0))
-next-apart a u w (y ∷ z ∷ xs) r (inl e) x (inr i) = inr (omega (arith, e .1, rising-low z (z ∷ xs) x (omega arith, r .1 .1) i))
-next-apart a u w (y ∷ z ∷ xs) r (inr h) x (inl q) = inl (omega (arith, rising-low (suc y) (z ∷ xs) u (r .1) (next-has u w (z ∷ xs) h .0)))
-next-apart a u w (y ∷ z ∷ xs) r (inr h) x (inr i) = next-apart (suc y) u w (z ∷ xs) (r .1) h x i
+pub next-apart : (u w : ℕ) (xs : List ℕ) → Rises xs → Next u w xs → (x : ℕ) → Has x xs → (x ≤ u) ⊎ (w ≤ x)
+next-apart u w [] r h x i = absurd h
+next-apart u w (y ∷ []) r h x i = absurd h
+next-apart u w (y ∷ z ∷ xs) r (inl e) x (inl q) = inl (omega (arith, e .0))
+next-apart u w (y ∷ z ∷ xs) r (inl e) x (inr i) = inr (omega (arith, e .1, rises-low z xs (r .1) x i))
+next-apart u w (y ∷ z ∷ xs) r (inr h) x (inl q) = inl (omega (arith, r .0 u (has-among u (z ∷ xs) (next-has u w (z ∷ xs) h .0))))
+next-apart u w (y ∷ z ∷ xs) r (inr h) x (inr i) = next-apart u w (z ∷ xs) (r .1) h x i
 
-module _ (a : ℕ) (xs : List ℕ) (r : Rising-from a xs) where
+module _ (xs : List ℕ) (r : Rises xs) where
   pub one-before : (u v w : ℕ) → Next u w xs → Next v w xs → u ≡ v
   one-before u v w h k =
-      let p = next-rises a u w xs r h in let q = next-rises a v w xs r k in
-      let i = next-apart a u w xs r h v (next-has v w xs k .0) in
-      let j = next-apart a v w xs r k u (next-has u w xs h .0) in
+      let p = next-rises u w xs r h in let q = next-rises v w xs r k in
+      let i = next-apart u w xs r h v (next-has v w xs k .0) in
+      let j = next-apart v w xs r k u (next-has u w xs h .0) in
       elim i [
           inl l ↦ elim j [ inl m ↦ omega arith | inr m ↦ omega arith ]
         | inr l ↦ omega arith ]
 
   pub one-after : (u v w : ℕ) → Next u v xs → Next u w xs → v ≡ w
   one-after u v w h k =
-      let p = next-rises a u v xs r h in let q = next-rises a u w xs r k in
-      let i = next-apart a u v xs r h w (next-has u w xs k .1) in
-      let j = next-apart a u w xs r k v (next-has u v xs h .1) in
+      let p = next-rises u v xs r h in let q = next-rises u w xs r k in
+      let i = next-apart u v xs r h w (next-has u w xs k .1) in
+      let j = next-apart u w xs r k v (next-has u v xs h .1) in
       elim i [
           inl l ↦ omega arith
         | inr l ↦ elim j [ inl m ↦ omega arith | inr m ↦ omega arith ] ]
@@ -118,13 +109,13 @@ last-has p x [] h = absurd h
 last-has p x (y ∷ []) h = inl refl
 last-has p x (y ∷ z ∷ xs) h = inr (last-has y z (z ∷ xs) (inl refl))
 
-pub first-lowest : (a p x : ℕ) (xs : List ℕ) → Rising-from a xs → Has x xs → first-of p xs ≤ x
-first-lowest a p x [] r h = absurd h
-first-lowest a p x (y ∷ xs) r h = rising-low y (y ∷ xs) x (omega arith, r .1) h
+pub first-lowest : (p x : ℕ) (xs : List ℕ) → Rises xs → Has x xs → first-of p xs ≤ x
+first-lowest p x [] r h = absurd h
+first-lowest p x (y ∷ xs) r h = rises-low y xs r x h
 
-pub last-highest : (a p x : ℕ) (xs : List ℕ) → Rising-from a xs → Has x xs → x ≤ last-of p xs
-last-highest a p x [] r h = absurd h
-last-highest a p x (y ∷ []) r (inl e) = omega arith
-last-highest a p x (y ∷ []) r (inr h) = absurd h
-last-highest a p x (y ∷ z ∷ xs) r (inl e) = omega (arith, r .1 .0, last-highest (suc y) y z (z ∷ xs) (r .1) (inl refl))
-last-highest a p x (y ∷ z ∷ xs) r (inr h) = last-highest (suc y) y x (z ∷ xs) (r .1) h
+pub last-highest : (p x : ℕ) (xs : List ℕ) → Rises xs → Has x xs → x ≤ last-of p xs
+last-highest p x [] r h = absurd h
+last-highest p x (y ∷ []) r (inl e) = omega arith
+last-highest p x (y ∷ []) r (inr h) = absurd h
+last-highest p x (y ∷ z ∷ xs) r (inl e) = omega (arith, r .0 z (inl refl), last-highest y z (z ∷ xs) (r .1) (inl refl))
+last-highest p x (y ∷ z ∷ xs) r (inr h) = last-highest y x (z ∷ xs) (r .1) h

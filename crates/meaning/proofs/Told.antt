@@ -14,12 +14,12 @@ use Rattle.records.specs.Tables.{link-edge}
 use Rattle.planning.specs.declared.End.{End}
 use Rattle.planning.specs.declared.End.the-variants.{Entry, Exit}
 use Rattle.planning.specs.Backs.{Ground, count, stand, groups-of, back-link, chain, closing, first-of, last-of, part-backs, wants-backs, backs-among}
-use Rattle.meaning.specs.Components.{Group, Joined, on as joined-on}
+use Rattle.meaning.specs.Components.{Group, Rises, Joined, on as joined-on}
 use Rattle.meaning.proofs.Known.{Known}
 use Rattle.meaning.proofs.Joins.{reaches-joins, joined-back}
 use Rattle.meaning.proofs.Grounds.{Tabled, known-tabled, Ends, Head, Wants, at-wants}
 use Rattle.meaning.proofs.Openers.{lowest-once, parts-classes}
-use Rattle.meaning.proofs.Rising.{Has, has-++, counting-has, Rising-from, rising-low, Next, next-has, next-rises, first-has, last-has, first-lowest, last-highest}
+use Rattle.meaning.proofs.Rising.{Has, has-++, counting-has, rises-low, Next, next-has, next-rises, first-has, last-has, first-lowest, last-highest}
 use Rattle.meaning.proofs.Leaders.{stand-mate, heads-same, groups-head, head-groups, groups-rising}
 use Rattle.meaning.proofs.LinkKinds.{Chained, chain-chained, Kind, part-kind, backs-back}
 use Rattle.meaning.proofs.Parts.{ends-apart}
@@ -36,10 +36,10 @@ module _ {g : Ground} {es : List Edge} (tabled : Tabled g es) (lead : ℕ) where
   pub kind-told : (p : ℕ) → p < count g → (b : Link) → Kind g lead p b → Told p b
   kind-told p h b (inl (u, w, n, e)) =
       let has = next-has u w (groups-of g Entry p) n in
-      subst (λ x. Told p x) (sym e) (enters u w n (groups-head tabled Entry p h u (has .0)) (groups-head tabled Entry p h w (has .1)) (next-rises 0 u w (groups-of g Entry p) (groups-rising tabled Entry p h) n))
+      subst (λ x. Told p x) (sym e) (enters u w n (groups-head tabled Entry p h u (has .0)) (groups-head tabled Entry p h w (has .1)) (next-rises u w (groups-of g Entry p) (groups-rising tabled Entry p h) n))
   kind-told p h b (inr (inl (u, w, n, e))) =
       let has = next-has u w (groups-of g Exit p) n in
-      subst (λ x. Told p x) (sym e) (leaves u w n (groups-head tabled Exit p h u (has .0)) (groups-head tabled Exit p h w (has .1)) (next-rises 0 u w (groups-of g Exit p) (groups-rising tabled Exit p h) n))
+      subst (λ x. Told p x) (sym e) (leaves u w n (groups-head tabled Exit p h u (has .0)) (groups-head tabled Exit p h w (has .1)) (next-rises u w (groups-of g Exit p) (groups-rising tabled Exit p h) n))
   kind-told p h b (inr (inr e)) =
       let self = reaches-joins (tabled .self p h) in
       let (x, hx, out) = to-head tabled Exit p p h self in
@@ -72,21 +72,21 @@ module _ {g : Ground} {es : List Edge} (tabled : Tabled g es) (lead : ℕ) where
   abbrev Apart : Link → Link → Type 0
   Apart b c = link-edge b ≡ link-edge c → ⊥
 
-  chain-distinct : (end : End) (p x a : ℕ) (us : List ℕ) → ((u : ℕ) → Has u (x ∷ us) → Head g es end p u) → Rising-from a (x ∷ us) → Distinct link-edge (chain g (Some x) us)
-  chain-distinct end p x a [] heads r = tt
-  chain-distinct end p x a (y ∷ us) heads r =
-      ((λ c h q. later c (chain-chained g (y ∷ us) c h) q), chain-distinct end p y (suc x) us (λ u h. heads u (inr h)) (r .1))
+  chain-distinct : (end : End) (p x : ℕ) (us : List ℕ) → ((u : ℕ) → Has u (x ∷ us) → Head g es end p u) → Rises (x ∷ us) → Distinct link-edge (chain g (Some x) us)
+  chain-distinct end p x [] heads r = tt
+  chain-distinct end p x (y ∷ us) heads r =
+      ((λ c h q. later c (chain-chained g (y ∷ us) c h) q), chain-distinct end p y us (λ u h. heads u (inr h)) (r .1))
     where
       later : (c : Link) → Chained g (y ∷ us) c → link-edge (back-link (stand g x) (stand g y) 0) ≡ link-edge c → ⊥
       later c (u, w, n, e) q =
           let has = next-has u w (y ∷ us) n in
           let same : stand g y ≡ stand g w = ap (λ (z : Edge). z .receiver) q ∙ ap (λ (z : Link). z .receiver) e in
           let one = stands-one end end p y w (heads y (inr (inl refl))) (heads w (inr (has .1))) same in
-          omega (arith, next-rises (suc x) u w (y ∷ us) (r .1) n, rising-low y (y ∷ us) u (omega arith, r .1 .1) (has .0))
+          omega (arith, next-rises u w (y ∷ us) (r .1) n, rises-low y us (r .1) u (has .0))
 
-  chains-distinct : (end : End) (p : ℕ) (us : List ℕ) → ((u : ℕ) → Has u us → Head g es end p u) → Rising-from 0 us → Distinct link-edge (chain g None us)
+  chains-distinct : (end : End) (p : ℕ) (us : List ℕ) → ((u : ℕ) → Has u us → Head g es end p u) → Rises us → Distinct link-edge (chain g None us)
   chains-distinct end p [] heads r = tt
-  chains-distinct end p (x ∷ us) heads r = chain-distinct end p x 0 us heads r
+  chains-distinct end p (x ∷ us) heads r = chain-distinct end p x us heads r
 
   module _ (p : ℕ) (hp : p < count g) (s : Wants g es p) where
     entry-head : (u : ℕ) → Has u (groups-of g Entry p) → Head g es Entry p u
@@ -109,7 +109,7 @@ module _ {g : Ground} {es : List Edge} (tabled : Tabled g es) (lead : ℕ) where
         let f = first-of p (groups-of g Entry p) in
         let same : stand g w ≡ stand g f = sym (ap (λ (z : Link). z .receiver) e) ∙ ap (λ (z : Edge). z .receiver) q ∙ ap (λ (z : Link). z .receiver) e′ in
         let one = stands-one Entry Entry p w f (entry-head w (has .1)) (entry-head f (first-has p w (groups-of g Entry p) (has .1))) same in
-        omega (arith, next-rises 0 u w (groups-of g Entry p) (groups-rising tabled Entry p hp) n, first-lowest 0 p u (groups-of g Entry p) (groups-rising tabled Entry p hp) (has .0))
+        omega (arith, next-rises u w (groups-of g Entry p) (groups-rising tabled Entry p hp) n, first-lowest p u (groups-of g Entry p) (groups-rising tabled Entry p hp) (has .0))
 
     exit-closing : (b c : Link) → Chained g (groups-of g Exit p) b → c ≡ closing g lead p → Apart b c
     exit-closing b c (u, w, n, e) e′ q =
@@ -117,7 +117,7 @@ module _ {g : Ground} {es : List Edge} (tabled : Tabled g es) (lead : ℕ) where
         let f = last-of p (groups-of g Exit p) in
         let same : stand g u ≡ stand g f = sym (ap (λ (z : Link). z .sender) e) ∙ ap (λ (z : Edge). z .sender) q ∙ ap (λ (z : Link). z .sender) e′ in
         let one = stands-one Exit Exit p u f (exit-head u (has .0)) (exit-head f (last-has p w (groups-of g Exit p) (has .1))) same in
-        omega (arith, next-rises 0 u w (groups-of g Exit p) (groups-rising tabled Exit p hp) n, last-highest 0 p w (groups-of g Exit p) (groups-rising tabled Exit p hp) (has .1))
+        omega (arith, next-rises u w (groups-of g Exit p) (groups-rising tabled Exit p hp) n, last-highest p w (groups-of g Exit p) (groups-rising tabled Exit p hp) (has .1))
 
     lone : (c : Link) → Has c (closing g lead p ∷ []) → c ≡ closing g lead p
     lone c (inl e) = e
