@@ -9,8 +9,6 @@ pub mod Chosen
 pub mod Following
 pub mod Drawn
 pub mod Deadlocks
-pub mod BackEnds
-pub mod Planned
 pub mod Filling
 pub mod Redundancy
 pub mod Twins
@@ -20,7 +18,6 @@ pub mod Dropping
 pub mod Fewest
 pub mod Enforcing
 pub mod Locals
-pub mod FinalMarks
 pub mod Known
 pub mod Tallies
 pub mod Joins
@@ -46,6 +43,9 @@ pub mod BacksLive
 pub mod BacksWhole
 pub mod Distinct
 pub mod Told
+pub mod BackEnds
+pub mod Planned
+pub mod FinalMarks
 pub mod BacksNeeded
 pub mod BackLinks
 pub mod Meaning
