@@ -1,8 +1,8 @@
 -- The edges of a drawing that passed the checks of its tables.
-use mathlib.Core.Path.{_≡_, refl, sym, subst}
+use mathlib.Core.Path.{_≡_, sym, subst}
 use mathlib.Core.List.{List, [], _∷_, _++_, map}
 use mathlib.Core.Logic.{inl, inr}
-use Prim.Native.Nat.{ℕ, zero, suc, _<_, _≤_}
+use Prim.Native.Nat.{ℕ, suc, _<_, _≤_}
 use native.Mathlib.Omega.{arith}
 use lib.ListN.{length, getD, take}
 use Rattle.std.specs.declared.result.Result.the-variants.{Ok}
@@ -16,6 +16,7 @@ use Rattle.waits.proofs.Paths.{in-++}
 use Rattle.planning.specs.Edges.{orders}
 use Rattle.planning.specs.Planning.{Given, tables-check, base-edges}
 use Rattle.planning.proofs.Passing.{Passed, tables-passed}
+use Rattle.meaning.proofs.Rising.{has-at, has-map}
 use Rattle.meaning.proofs.OrderEdges.{order-if-in}
 use Rattle.meaning.proofs.Reaching.{Small}
 
@@ -26,9 +27,7 @@ link-place (l ∷ ls) e (inl p) = (0, omega arith, p)
 link-place (l ∷ ls) e (inr i) = let r = link-place ls e i in (suc (r .0), omega (arith, r .1), r .2)
 
 pub link-in : (ls : List Link) (k : ℕ) → k < length ls → In (link-edge (getD ls k no-link)) (map link-edge ls)
-link-in [] k h = absurd (omega arith)
-link-in (l ∷ ls) zero h = inl refl
-link-in (l ∷ ls) (suc k) h = inr (link-in ls k (omega arith))
+link-in ls k h = has-map link-edge ls (getD ls k no-link) (has-at no-link ls k h)
 
 -- an order's edge joins actors, with delay 0 or 1
 order-small : (actors : List Actor) (e : Edge) → Order actors e → (e .sender < length actors) × (e .receiver < length actors) × (e .delay ≤ 1000)

@@ -1,11 +1,11 @@
 -- From every actor an exit group is reached, and every actor is reached from an entry group.
 use mathlib.Core.Path.{_≡_}
-use mathlib.Core.Bool.{Bool, true, false, not, _||_}
+use mathlib.Core.Bool.{Bool, true, not, _||_}
 use mathlib.Core.List.{List}
 use mathlib.Core.Logic.{inl, inr}
 use Prim.Native.Nat.{ℕ, zero, suc, _<_}
 use native.Mathlib.Omega.{arith}
-use Rattle.std.proofs.shelf.Tests.{cases-bool, or-parts, not-false}
+use Rattle.std.proofs.shelf.Tests.{cases-bool, or-parts, not-false, both-ways}
 use Rattle.records.specs.declared.tables.Edge.{Edge}
 use Rattle.waits.specs.Counting.{count}
 use Rattle.planning.specs.Groups.{all-below, reaches, end-group}
@@ -18,7 +18,7 @@ use Rattle.meaning.proofs.Reaching.{Small}
 -- r says who is ahead of whom: whoever x has ahead, and all that those have ahead
 module _ (n : ℕ) (r : ℕ → ℕ → Bool) (goes : (x y z : ℕ) → x < n → y < n → z < n → r x y ≡ true → r y z ≡ true → r x z ≡ true) where
   -- fewer are ahead of w than of u
-  fewer-ahead : (u w : ℕ) → u < n → w < n → r u u ≡ true → r u w ≡ true → r w u ≡ false → count (r w) n < count (r u) n
+  fewer-ahead : (u w : ℕ) → u < n → w < n → r u u ≡ true → r u w ≡ true → (r w u ≡ true → ⊥) → count (r w) n < count (r u) n
   fewer-ahead u w hu hw self there no-back = count-less (r w) (r u) n (λ x h t. goes u w x hu hw h there t) u hu no-back self
 
   -- ahead of u there is some x that is ahead of all that are ahead of it
@@ -31,7 +31,7 @@ module _ (n : ℕ) (r : ℕ → ℕ → Bool) (goes : (x y z : ℕ) → x < n �
         let (w, hw, g) = one-fails (λ w. not (r u w) || r w u) n f in
         let both = or-parts (not (r u w)) (r w u) g in
         let there = not-false (r u w) (both .0) in
-        let (x, hx, way, all) = furthest self m w hw (omega (arith, fewer-ahead u w hu hw (self u hu) there (both .1))) in
+        let (x, hx, way, all) = furthest self m w hw (omega (arith, fewer-ahead u w hu hw (self u hu) there (λ t. both-ways (r w u) (both .1) t))) in
         (x, hx, goes u w x hu hw hx there way, all) ]
 
 module _ (n : ℕ) (es : List Edge) (small : Small n es) (self : (x : ℕ) → x < n → Reaches es x x) where

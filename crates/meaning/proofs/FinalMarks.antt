@@ -7,11 +7,10 @@ use native.Mathlib.Omega.{arith}
 use lib.ListN.{length, getD, take}
 use Rattle.std.specs.declared.result.Result.the-variants.{Ok}
 use Rattle.std.proofs.shelf.Lists.{getD-append-left, getD-append-right, getD-map, length-append}
-use Rattle.records.specs.declared.tables.Edge.{Edge}
 use Rattle.records.specs.declared.tables.Link.{Link}
 use Rattle.records.specs.Tables.{no-link, edge, link-edge}
 use Rattle.planning.specs.Marks.{mark-of, mark-link, marked, size-of, size-link}
-use Rattle.planning.specs.Planning.{Given, tables-check, ground, back-links, all-links, plan-delays, plan-links}
+use Rattle.planning.specs.Planning.{Given, tables-check, back-links, all-links, plan-delays, plan-links}
 use Rattle.planning.proofs.Numbered.{length-numbered, numbered-at}
 use Rattle.meaning.specs.Choices.{place}
 use Rattle.meaning.proofs.BackEnds.{backs-fine}

@@ -1,3 +1,5 @@
+pub mod Tallies
+pub mod Rising
 pub mod Laid
 pub mod Delays
 pub mod Free
@@ -19,7 +21,6 @@ pub mod Fewest
 pub mod Enforcing
 pub mod Locals
 pub mod Known
-pub mod Tallies
 pub mod Joins
 pub mod Groups
 pub mod EndGroups
@@ -27,7 +28,6 @@ pub mod Grounds
 pub mod Openers
 pub mod Picked
 pub mod StandIns
-pub mod Rising
 pub mod Leaders
 pub mod Parts
 pub mod Climbing

@@ -12,17 +12,13 @@ use Rattle.records.specs.Tables.{link-edge}
 use Rattle.waits.specs.Events.{In}
 use Rattle.planning.specs.declared.End.the-variants.{Entry, Exit}
 use Rattle.planning.specs.Backs.{Ground, back-link, chain, closing, groups-of, stand, part-backs, wants-backs, backs-among}
-use Rattle.meaning.proofs.Rising.{Has, has-++, has-left, has-right, Next}
+use Rattle.meaning.proofs.Rising.{Has, has-map, map-has, has-++, has-left, has-right, Next}
 
 pub in-map : (bs : List Link) (e : Edge) → In e (map link-edge bs) → (b : Link) × Has b bs × (e ≡ link-edge b)
-in-map [] e i = absurd i
-in-map (b ∷ bs) e (inl q) = (b, inl refl, q)
-in-map (b ∷ bs) e (inr i) = let r = in-map bs e i in (r .0, inr (r .1), r .2)
+in-map bs e i = map-has link-edge bs e i
 
 pub map-in : (bs : List Link) (b : Link) → Has b bs → In (link-edge b) (map link-edge bs)
-map-in [] b h = absurd h
-map-in (c ∷ bs) b (inl q) = inl (ap link-edge q)
-map-in (c ∷ bs) b (inr h) = inr (map-in bs b h)
+map-in bs b h = has-map link-edge bs b h
 
 -- b joins the groups of two heads of us, the second directly after the first
 abbrev pub Chained : Ground → List ℕ → Link → Type 0

@@ -1,8 +1,8 @@
 -- The list of a drawing's order edges has exactly the edges of the processors' orders.
 use mathlib.Core.Path.{_≡_, refl, sym, subst}
-use mathlib.Core.List.{List, [], map}
+use mathlib.Core.List.{List, []}
 use mathlib.Core.Logic.{inl, inr, ⊎-elim}
-use Prim.Native.Nat.{ℕ, zero, suc, _+_, _<_, _≤_}
+use Prim.Native.Nat.{ℕ, _<_, _≤_}
 use native.Mathlib.Omega.{arith}
 use lib.ListN.{length}
 use Rattle.std.specs.Iters.{counting}
@@ -14,12 +14,8 @@ use Rattle.records.specs.Tables.{edge, processor-of}
 use Rattle.waits.specs.Drawings.{Next, Round, Order}
 use Rattle.waits.specs.Events.{In}
 use Rattle.planning.specs.Edges.{last-on, order-edge, orders}
+use Rattle.meaning.proofs.Rising.{map-has, counting-has}
 use Rattle.meaning.proofs.Turns.{Last, last-found, entered, from-before, from-last}
-
-some-place : (f : ℕ → Edge) (a k : ℕ) (e : Edge) → In e (map f (counting a k)) → (v : ℕ) × (v < a + k) × (e ≡ f v)
-some-place f a zero e i = absurd i
-some-place f a (suc k) e (inl p) = (a, omega arith, p)
-some-place f a (suc k) e (inr i) = let r = some-place f (a + 1) k e i in (r .0, omega (arith, r .1), r .2)
 
 module _ (actors : List Actor) where
   order-of : (v : ℕ) → v < length actors → Order actors (order-edge actors v)
@@ -48,7 +44,7 @@ module _ (actors : List Actor) where
       (last-found actors (processor-of actors v) v)
 
   pub order-if-in : (e : Edge) → In e (orders actors) → Order actors e
-  order-if-in e i = let r = some-place (order-edge actors) 0 (length actors) e i in subst (Order actors) (sym (r .2)) (order-of (r .0) (omega (arith, r .1)))
+  order-if-in e i = let (v, h, q) = map-has (order-edge actors) (counting 0 (length actors)) e i in subst (Order actors) (sym q) (order-of v (omega (arith, counting-has 0 (length actors) v h)))
 
   next-in : (u v : ℕ) → Next actors u v → In (edge u v 0) (orders actors)
   next-in u v x =

@@ -1,11 +1,14 @@
 -- Members of lists, and rising lists of numbers: their first, their last and what follows what.
-use mathlib.Core.Path.{_≡_, refl}
-use mathlib.Core.List.{List, [], _∷_, _++_}
+use mathlib.Core.Path.{_≡_, refl, ap}
+use mathlib.Core.List.{List, [], _∷_, _++_, map}
 use mathlib.Core.Logic.{_⊎_, inl, inr}
 use Prim.Native.Nat.{ℕ, zero, suc, _+_, _<_, _≤_}
 use native.Mathlib.Omega.{arith}
+use lib.ListN.{length, getD}
 use Rattle.std.specs.Iters.{counting}
 use Rattle.std.proofs.shelf.Tests.{cases-order}
+use Rattle.records.specs.declared.tables.Edge.{Edge}
+use Rattle.waits.specs.Events.{In}
 use Rattle.planning.specs.Backs.{first-of, last-of}
 use Rattle.meaning.specs.Components.{Among, Rises}
 
@@ -26,6 +29,21 @@ has-left x (y ∷ xs) ys (inr h) = inr (has-left x xs ys h)
 pub has-right : {X : Type 0} (x : X) (xs ys : List X) → Has x ys → Has x (xs ++ ys)
 has-right x [] ys h = h
 has-right x (y ∷ xs) ys h = inr (has-right x xs ys h)
+
+pub has-at : {X : Type 0} (d : X) (xs : List X) (k : ℕ) → k < length xs → Has (getD xs k d) xs
+has-at d [] k h = absurd (omega arith)
+has-at d (x ∷ xs) zero h = inl refl
+has-at d (x ∷ xs) (suc k) h = inr (has-at d xs k (omega arith))
+
+pub has-map : {X : Type 0} (f : X → Edge) (xs : List X) (x : X) → Has x xs → In (f x) (map f xs)
+has-map f [] x h = absurd h
+has-map f (y ∷ xs) x (inl q) = inl (ap f q)
+has-map f (y ∷ xs) x (inr h) = inr (has-map f xs x h)
+
+pub map-has : {X : Type 0} (f : X → Edge) (xs : List X) (e : Edge) → In e (map f xs) → (x : X) × Has x xs × (e ≡ f x)
+map-has f [] e i = absurd i
+map-has f (x ∷ xs) e (inl q) = (x, inl refl, q)
+map-has f (x ∷ xs) e (inr i) = let r = map-has f xs e i in (r .0, inr (r .1), r .2)
 
 pub has-counting : (a k i : ℕ) → a ≤ i → i < a + k → Has i (counting a k)
 has-counting a zero i lo hi = absurd (omega arith)

@@ -55,9 +55,10 @@ lowest-found p (suc k) i h t = cond-both (all-below (λ j. not (p j)) k) k (lowe
 pub count-le : (p q : ℕ → Bool) (n : ℕ) → ((i : ℕ) → i < n → p i ≡ true → q i ≡ true) → count p n ≤ count q n
 count-le p q n h = counting p q (λ i. i) n n (λ i l t. (i, l, h i l t, refl))
 
-pub count-less : (p q : ℕ → Bool) (n : ℕ) → ((i : ℕ) → i < n → p i ≡ true → q i ≡ true) → (a : ℕ) → a < n → p a ≡ false → q a ≡ true → count p n < count q n
+-- fewer where one passes q alone
+pub count-less : (p q : ℕ → Bool) (n : ℕ) → ((i : ℕ) → i < n → p i ≡ true → q i ≡ true) → (a : ℕ) → a < n → (p a ≡ true → ⊥) → q a ≡ true → count p n < count q n
 count-less p q n h a l f t =
-    omega (arith, count-without q a n l t, count-le p (without q a) n (λ i l y. without-keeps q a i (h i l y) (λ e. both-ways (p a) f (ap p (sym e) ∙ y))))
+    omega (arith, count-without q a n l t, count-le p (without q a) n (λ i l y. without-keeps q a i (h i l y) (λ e. f (ap p (sym e) ∙ y))))
 
 pub count-some : (p : ℕ → Bool) (n i : ℕ) → i < n → p i ≡ true → 1 ≤ count p n
 count-some p n i l t = omega (arith, count-without p i n l t)

@@ -1,21 +1,22 @@
 -- Paths along a processor's order: to a later actor without delay, and to every actor with delay 1.
 use mathlib.Core.Path.{_≡_, refl, ap, sym, subst, _∙_}
 use mathlib.Core.Bool.{true, false}
-use mathlib.Core.List.{List, [], map}
+use mathlib.Core.List.{List, []}
 use mathlib.Core.Logic.{_⊎_, inl, inr, ⊎-elim}
-use Prim.Native.Nat.{ℕ, zero, suc, _+_, _<_, _≤_}
+use Prim.Native.Nat.{ℕ, zero, suc, _<_, _≤_}
 use native.Mathlib.Omega.{arith}
 use lib.Dec.{eqb}
 use lib.ListN.{length}
 use Rattle.std.specs.Iters.{counting}
 use Rattle.std.specs.declared.option.Option.the-variants.{Some, None}
-use Rattle.std.proofs.shelf.Tests.{cases-lt, cases-eq, cases-bool, cond-true, cond-false, eqb-true, eqb-false, cases-order}
+use Rattle.std.proofs.shelf.Tests.{cases-lt, cases-bool, cond-true, cond-false, eqb-true, eqb-false}
 use Rattle.records.specs.declared.tables.Actor.{Actor}
 use Rattle.records.specs.declared.tables.Edge.{Edge}
 use Rattle.records.specs.Tables.{edge, processor-of}
 use Rattle.waits.specs.Events.{In, Path, last}
 use Rattle.waits.proofs.Paths.{path-joined}
 use Rattle.planning.specs.Edges.{last-on, edge-into, order-edge, orders}
+use Rattle.meaning.proofs.Rising.{has-map, has-counting}
 
 -- the last actor below k on a processor: it is on it, and none between it and k is
 pub record Last (actors : List Actor) (p k u : ℕ) : Type 0 where
@@ -42,19 +43,13 @@ last-found actors p (suc k) =
       (last-found actors p k))
     (cases-bool (eqb (processor-of actors k) p))
 
-in-counting : (f : ℕ → Edge) (a k i : ℕ) → a ≤ i → i < a + k → In (f i) (map f (counting a k))
-in-counting f a zero i lo hi = absurd (omega arith)
-in-counting f a (suc k) i lo hi =
-    ⊎-elim (λ (e : i ≡ a). inl (ap f e)) (λ (d : i ≡ a → ⊥). inr (in-counting f (a + 1) k i (⊎-elim (λ (e : i ≡ a). absurd (d e)) (λ (o : (i < a) ⊎ (a < i)). ⊎-elim (λ (l : i < a). omega arith) (λ (l : a < i). omega arith) o) (cases-order i a)) (omega arith)))
-    (cases-eq i a)
-
 module _ (actors : List Actor) where
   abbrev pub on : ℕ → ℕ
   on u = processor-of actors u
 
   -- the order's edge into v
   pub entered : (v : ℕ) → v < length actors → (e : Edge) → order-edge actors v ≡ e → In e (orders actors)
-  entered v h e p = subst (λ x. In x (orders actors)) p (in-counting (order-edge actors) 0 (length actors) v (omega arith) (omega arith))
+  entered v h e p = subst (λ x. In x (orders actors)) p (has-map (order-edge actors) (counting 0 (length actors)) v (has-counting 0 (length actors) v (omega arith) (omega arith)))
 
   pub from-before : (v u : ℕ) → last-on actors (on v) v ≡ Some u → order-edge actors v ≡ edge u v 0
   unfolding order-edge
