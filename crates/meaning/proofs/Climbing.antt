@@ -28,8 +28,8 @@ way-joins es Exit u v l = reaches-joins l
 
 module _ {g : Ground} {es : List Edge} (tabled : Tabled g es) where
   to-end : (end : End) (u : ℕ) → u < count g → (x : ℕ) × (x < count g) × Way es end u x × Ends es end x
-  to-end Entry u h = entry-reaching (count g) es (tabled .small) (tabled .self) u h
-  to-end Exit u h = exit-reached (count g) es (tabled .small) (tabled .self) u h
+  to-end Entry u h = entry-reaching tabled u h
+  to-end Exit u h = exit-reached tabled u h
 
   -- a way towards each end leads from u to the lowest actor of a group there
   pub to-head : (end : End) (p u : ℕ) → u < count g → Joined es p u → (h : ℕ) × Head g es end p h × Way es end u h

@@ -23,8 +23,8 @@ pub mod Locals
 pub mod Known
 pub mod Joins
 pub mod Groups
-pub mod EndGroups
 pub mod Grounds
+pub mod EndGroups
 pub mod Openers
 pub mod Picked
 pub mod StandIns
