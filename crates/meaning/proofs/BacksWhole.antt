@@ -15,12 +15,16 @@ use Rattle.planning.specs.declared.End.{End}
 use Rattle.planning.specs.declared.End.the-variants.{Entry, Exit}
 use Rattle.planning.specs.Groups.{same-part}
 use Rattle.planning.specs.Backs.{Ground, count, stand, groups-of, backs-among, back-link, closing, first-of, last-of, wants-backs}
+use Rattle.meaning.specs.Components.{Reaches, Joined, on as joined-on}
 use Rattle.meaning.proofs.Known.{Known}
-use Rattle.meaning.proofs.Mates.{Linked, linked-goes, Joined, joined-goes, part-joined, own-mate}
+use Rattle.meaning.proofs.Joins.{joined-back}
+use Rattle.meaning.proofs.Groups.{reaches-on}
+use Rattle.meaning.proofs.Grounds.{Tabled, known-tabled, part, at-part}
+use Rattle.meaning.proofs.Openers.{opener, opener-below, opener-shares, opener-lowest, parts-classes}
 use Rattle.meaning.proofs.Rising.{Has, has-counting, Next}
 use Rattle.meaning.proofs.Leaders.{stand-under, stand-mate, groups-head, head-groups}
 use Rattle.meaning.proofs.LinkKinds.{map-in, Kind, kind-part, back-backs}
-use Rattle.meaning.proofs.Parts.{part-low, part-low-under, part-low-joined, one-or-wants}
+use Rattle.meaning.proofs.Parts.{one-or-wants}
 use Rattle.meaning.proofs.Climbing.{to-head}
 use Rattle.meaning.proofs.BackEdges.{back-edges, with-backs}
 use Rattle.meaning.proofs.Chosen.{in-left, in-right}
@@ -44,48 +48,55 @@ module _ (R : ℕ → ℕ → Type 0) (goes : (u w v : ℕ) → R u w → R w v 
       goes x y u (next x y (inl (refl, refl))) (from-first x (y ∷ us) (λ u h. same u (inr h)) (λ u w h. next u w (inr h)) u h)
 
 module _ {g : Ground} {es : List Edge} (known : Known g es) (lead : ℕ) where
-  pub linked-more : {u v : ℕ} → Linked es u v → Linked (with-backs g lead es) u v
-  linked-more l = (l .0, path-over-more (λ e h. in-left e es (back-edges g lead) h) (l .1))
+  abbrev tabled : Tabled g es
+  tabled = known-tabled known
+
+  pub reaches-more : {u v : ℕ} → Reaches es u v → Reaches (with-backs g lead es) u v
+  reaches-more l = (l .0, path-over-more (λ e h. in-left e es (back-edges g lead) h) (l .1))
 
   module _ (p : ℕ) (hp : p < count g) (wants : wants-backs g p ≡ true) where
-    kind-linked : (b : Link) → Kind g lead p b → Linked (with-backs g lead es) (b .sender) (b .receiver)
-    kind-linked b k =
-        (b .delay, last (in-right (link-edge b) es (back-edges g lead)
-        (map-in (backs-among g lead (counting 0 (count g))) b
-          (back-backs g lead (counting 0 (count g)) b (p, has-counting 0 (count g) p (omega arith) (omega arith), wants, kind-part g lead p b k)))))
+    kind-reaches : (b : Link) → Kind g lead p b → Reaches (with-backs g lead es) (b .sender) (b .receiver)
+    kind-reaches b k = (
+      b .delay,
+      last (in-right (link-edge b) es (back-edges g lead)
+          (map-in (backs-among g lead (counting 0 (count g))) b
+          (back-backs g lead (counting 0 (count g)) b (p, has-counting 0 (count g) p (omega arith) (omega arith), wants, kind-part g lead p b k)))),
+    )
 
-    -- the actors that stand for the groups of u and w are linked
+    -- the actors that stand for the groups of u and w reach one another
     abbrev Stands : ℕ → ℕ → Type 0
-    Stands u w = Linked (with-backs g lead es) (stand g u) (stand g w)
+    Stands u w = Reaches (with-backs g lead es) (stand g u) (stand g w)
 
     stands-same : (end : End) (u : ℕ) → Has u (groups-of g end p) → Stands u u
-    stands-same end u h = linked-more (own-mate known (stand g u) (stand-under known u (groups-head known end p hp u h .under)) .0)
+    stands-same end u h = reaches-more (tabled .self (stand g u) (stand-under tabled (groups-head tabled end p hp u h)))
 
     stands-next : (end : End) (u w : ℕ) → Next u w (groups-of g end p) → Stands u w
-    stands-next Entry u w h = kind-linked (back-link (stand g u) (stand g w) 0) (inl (u, w, h, refl))
-    stands-next Exit u w h = kind-linked (back-link (stand g u) (stand g w) 0) (inr (inl (u, w, h, refl)))
+    stands-next Entry u w h = kind-reaches (back-link (stand g u) (stand g w) 0) (inl (u, w, h, refl))
+    stands-next Exit u w h = kind-reaches (back-link (stand g u) (stand g w) 0) (inr (inl (u, w, h, refl)))
 
     -- from every actor of the part by way of the last exit group and the first entry group to every other
-    around : (u v : ℕ) → u < count g → v < count g → Joined es p u → Joined es p v → Linked (with-backs g lead es) u v
+    around : (u v : ℕ) → u < count g → v < count g → Joined es p u → Joined es p v → Reaches (with-backs g lead es) u v
     around u v hu hv ju jv =
-        let (x, hx, out) = to-head known Exit p u hu ju in
-        let (y, hy, into) = to-head known Entry p v hv jv in
-        let a : Linked (with-backs g lead es) u (stand g x) = linked-more (linked-goes out (stand-mate known x (hx .under) .0)) in
+        let (x, hx, out) = to-head tabled Exit p u hu ju in
+        let (y, hy, into) = to-head tabled Entry p v hv jv in
+        let a : Reaches (with-backs g lead es) u (stand g x) = reaches-more (reaches-on out (stand-mate tabled hx .0)) in
         let b : Stands x (last-of p (groups-of g Exit p)) =
-            to-last Stands (λ u w v a b. linked-goes a b) p (groups-of g Exit p) (stands-same Exit) (stands-next Exit) x (head-groups known Exit p hp x hx) in
-        let c : Stands (last-of p (groups-of g Exit p)) (first-of p (groups-of g Entry p)) = kind-linked (closing g lead p) (inr (inr refl)) in
+        to-last Stands (λ u w v a b. reaches-on a b) p (groups-of g Exit p) (stands-same Exit) (stands-next Exit) x (head-groups tabled Exit p hp x hx) in
+        let c : Stands (last-of p (groups-of g Exit p)) (first-of p (groups-of g Entry p)) = kind-reaches (closing g lead p) (inr (inr refl)) in
         let d : Stands (first-of p (groups-of g Entry p)) y =
-            from-first Stands (λ u w v a b. linked-goes a b) p (groups-of g Entry p) (stands-same Entry) (stands-next Entry) y (head-groups known Entry p hp y hy) in
-        let f : Linked (with-backs g lead es) (stand g y) v = linked-more (linked-goes (stand-mate known y (hy .under) .1) into) in
-        linked-goes a (linked-goes b (linked-goes c (linked-goes d f)))
+        from-first Stands (λ u w v a b. reaches-on a b) p (groups-of g Entry p) (stands-same Entry) (stands-next Entry) y (head-groups tabled Entry p hp y hy) in
+        let f : Reaches (with-backs g lead es) (stand g y) v = reaches-more (reaches-on (stand-mate tabled hy .1) into) in
+        reaches-on a (reaches-on b (reaches-on c (reaches-on d f)))
 
   -- with the back links some path leads from each actor of a part to every other
-  pub backs-whole : (u v : ℕ) → u < count g → v < count g → same-part (count g) (g .joined) u v ≡ true → Linked (with-backs g lead es) u v
+  pub backs-whole : (u v : ℕ) → u < count g → v < count g → same-part (count g) (g .joined) u v ≡ true → Reaches (with-backs g lead es) u v
   backs-whole u v hu hv t =
-      let p = part-low known u in
-      let hp = part-low-under known u hu in
-      let ju = part-low-joined known u hu in
-      let jv = joined-goes es ju (part-joined known u v hu hv t) in
-      elim (one-or-wants known u hu) [
-          inl mates ↦ linked-more (linked-goes (mates u hu ju .1) (mates v hv jv .0))
-        | inr wants ↦ around p hp wants u v hu hv ju jv ]
+      let classes = parts-classes tabled in
+      let p = opener (count g) (part g) u in
+      let hp = opener-below classes u hu in
+      let ju = joined-back (opener-shares classes u hu) in
+      let jv = joined-on ju (at-part tabled u v hu hv .0 t) in
+      elim (one-or-wants tabled p hp (opener-lowest classes u hu)) [
+        | inl mates ↦ reaches-more (reaches-on (mates u hu ju .1) (mates v hv jv .0))
+        | inr wants ↦ around p hp wants u v hu hv ju jv
+      ]

@@ -53,23 +53,27 @@ module _ (actors : List Actor) (es : List Edge) (small : Small (length actors) e
       let decides = group-decides (length actors) es small (l .sender) (l .receiver) hs hr in
       ⊎-elim
       (λ (t : local actors (link-edge l) ≡ true).
-        let same = eqb-true _ _ t in rw t (record { local = λ _. refl; within = λ cross _. absurd (cross same); between = λ cross _. absurd (cross same) }))
+      let same = eqb-true _ _ t in rw t (record { local = λ _. refl; within = λ cross _. absurd (cross same); between = λ cross _. absurd (cross same) }))
       (λ (f : local actors (link-edge l) ≡ false).
-        let cross : Local actors (link-edge l) → ⊥ = eqb-false _ _ f in
-        ⊎-elim
-        (λ (t : same-group (length actors) (least-delays (length actors) es) (l .sender) (l .receiver) ≡ true).
-          rw (f, t) (record { local = λ same. absurd (cross same); within = λ _ _. refl; between = λ _ apart. absurd (apart (decides .0 t)) }))
-        (λ (n : same-group (length actors) (least-delays (length actors) es) (l .sender) (l .receiver) ≡ false).
-          rw (f, n) (record { local = λ same. absurd (cross same); within = λ _ one. absurd (both-ways _ n (decides .1 one)); between = λ _ _. refl }))
-        (cases-bool (same-group (length actors) (least-delays (length actors) es) (l .sender) (l .receiver))))
+      let cross : Local actors (link-edge l) → ⊥ = eqb-false _ _ f in
+      ⊎-elim
+      (λ (t : same-group (length actors) (least-delays (length actors) es) (l .sender) (l .receiver) ≡ true).
+      rw (f, t) (record { local = λ same. absurd (cross same); within = λ _ _. refl; between = λ _ apart. absurd (apart (decides .0 t)) }))
+      (λ (n : same-group (length actors) (least-delays (length actors) es) (l .sender) (l .receiver) ≡ false).
+      rw (f, n) (record { local = λ same. absurd (cross same); within = λ _ one. absurd (both-ways _ n (decides .1 one)); between = λ _ _. refl }))
+      (cases-bool (same-group (length actors) (least-delays (length actors) es) (l .sender) (l .receiver))))
       (cases-bool (local actors (link-edge l)))
 
   all-costs : (ls : List Link) → ((k : ℕ) → k < length ls → (getD ls k no-link .sender < length actors) × (getD ls k no-link .receiver < length actors))
       → Costs actors es (map link-edge ls) (cost-before actors (length actors) (least-delays (length actors) es) ls)
   all-costs [] ends = refl
-  all-costs (l ∷ ls) ends =
-      (link-cost-before actors (length actors) (least-delays (length actors) es) l, cost-before actors (length actors) (least-delays (length actors) es) ls,
-      link-costs l (ends 0 (omega arith) .0) (ends 0 (omega arith) .1), all-costs ls (λ k h. ends (suc k) (omega arith)), refl)
+  all-costs (l ∷ ls) ends = (
+    link-cost-before actors (length actors) (least-delays (length actors) es) l,
+    cost-before actors (length actors) (least-delays (length actors) es) ls,
+    link-costs l (ends 0 (omega arith) .0) (ends 0 (omega arith) .1),
+    all-costs ls (λ k h. ends (suc k) (omega arith)),
+    refl,
+  )
 
 pub costs-mean : (d : Given) → tables-check d ≡ Ok tt → map link-edge (plan-links d) ≡ plan-edges d → Costs-mean d (plan-totals d)
 unfolding plan-totals

@@ -58,8 +58,8 @@ given-cost g (l ∷ ls) (m ∷ ms) h =
     ⊎-elim
     (λ (t : local (g .actors) (link-edge l) ≡ true). rw t (omega (arith, local-cost m (h .0 t))))
     (λ (f : local (g .actors) (link-edge l) ≡ false).
-      ⊎-elim (λ (s : group g (l .sender) (l .receiver) ≡ true). rw (f, s) (omega arith)) (λ (s : group g (l .sender) (l .receiver) ≡ false). rw (f, s) (omega arith))
-      (cases-bool (group g (l .sender) (l .receiver))))
+    ⊎-elim (λ (s : group g (l .sender) (l .receiver) ≡ true). rw (f, s) (omega arith)) (λ (s : group g (l .sender) (l .receiver) ≡ false). rw (f, s) (omega arith))
+    (cases-bool (group g (l .sender) (l .receiver))))
     (cases-bool (local (g .actors) (link-edge l)))
 
 module _ (g : Ground) (es : List Edge) (known : Known g es) (ls : List Link) (covered : Covered g es ls) where
@@ -97,6 +97,9 @@ unfolding plan-totals plan-links
 plan-costs-no-more d small =
     let ls = take (d .given) (d .links) in
     let ms = marked (d .actors) (map link-edge (all-links d)) ls in
-    omega (arith, cost-after-sized (length (d .actors)) (plan-delays d) (ms ++ back-links d),
+    omega (
+      arith,
+      cost-after-sized (length (d .actors)) (plan-delays d) (ms ++ back-links d),
       cost-with-backs (ground d) (base-edges d) (given-known d small) ls (drawing-covered (ground d) ls) (d .lead) ms
-        (marked-local (d .actors) (map link-edge (all-links d)) 0 ls))
+          (marked-local (d .actors) (map link-edge (all-links d)) 0 ls),
+    )

@@ -34,11 +34,11 @@ first-bad bad number layer k [] d f e = absurd (err-not-ok f (sym e))
 first-bad bad number layer k (x ∷ xs) d f e =
     ⊎-elim
     (λ (t : bad x ≡ true).
-      let same : fault number layer k ≡ f = let p : _≡_ {A = Result Unit Fault} (Err (fault number layer k)) (Err f) = sym (cond-true _ _ _ t) ∙ e in cc in
-      (0, omega arith, sym same ∙ ap (fault number layer) (let z : k ≡ k + 0 = omega arith in z), t, λ j h. absurd (omega arith)))
+    let same : fault number layer k ≡ f = let p : _≡_ {A = Result Unit Fault} (Err (fault number layer k)) (Err f) = sym (cond-true _ _ _ t) ∙ e in cc in
+    (0, omega arith, sym same ∙ ap (fault number layer) (let z : k ≡ k + 0 = omega arith in z), t, λ j h. absurd (omega arith)))
     (λ (t : bad x ≡ false).
-      let r = first-bad bad number layer (k + 1) xs d f (sym (cond-false _ _ _ t) ∙ e) in
-      (suc (r .0), omega (arith, r .1), r .2 ∙ ap (fault number layer) (let z : k + 1 + r .0 ≡ k + suc (r .0) = omega arith in z), r .3, earlier bad x xs d (r .0) t (r .4)))
+    let r = first-bad bad number layer (k + 1) xs d f (sym (cond-false _ _ _ t) ∙ e) in
+    (suc (r .0), omega (arith, r .1), r .2 ∙ ap (fault number layer) (let z : k + 1 + r .0 ≡ k + suc (r .0) = omega arith in z), r .3, earlier bad x xs d (r .0) t (r .4)))
     (cases-bool (bad x))
   where
     earlier : {X : Type 0} (bad : X → Bool) (x : X) (xs : List X) (d : X) (i : ℕ) → bad x ≡ false → ((j : ℕ) → j < i → bad (getD xs j d) ≡ false)
@@ -85,15 +85,17 @@ module _ (d : Given) (tables : tables-check d ≡ Ok tt) where
       let below : i < length (d .actors) = omega (arith, r .1, length-counting 0 (length (d .actors))) in
       let is : f ≡ fault 11 Plan i = r .2 ∙ ap (fault 11 Plan) (zero-add i) in
       let place : f .place ≡ i = ap (λ (x : Fault). x .place) is in
-      let cycle = path-if-free (length (d .actors)) (base-edges d) (base-small d tables .within) i i below below (ap (on-cycle (length (d .actors)) (free-paths d)) (sym (at-counting i below)) ∙ r .3) in
-      (is ∙ ap (fault 11 Plan) (sym place), stuck i below cycle,
-      subst (Lowest-on-cycle d) (sym place) (record {
-        below = below;
-        on-cycle = cycle;
-        lowest = λ w h p.
-          let hw : w < length (d .actors) = omega arith in
-          both-ways (on-cycle (length (d .actors)) (free-paths d) w) (ap (on-cycle (length (d .actors)) (free-paths d)) (sym (at-counting w hw)) ∙ r .4 w h) (free-at w hw p);
-      }))
+      let cycle = path-if-free (length (d .actors)) (base-edges d) (base-small d tables .within) i i below below (ap (on-cycle (length (d .actors)) (free-paths d)) (sym (at-counting i below)) ∙ r .3) in (
+        is ∙ ap (fault 11 Plan) (sym place),
+        stuck i below cycle,
+        subst (Lowest-on-cycle d) (sym place) (record {
+          below = below;
+          on-cycle = cycle;
+          lowest = λ w h p.
+              let hw : w < length (d .actors) = omega arith in
+              both-ways (on-cycle (length (d .actors)) (free-paths d) w) (ap (on-cycle (length (d .actors)) (free-paths d)) (sym (at-counting w hw)) ∙ r .4 w h) (free-at w hw p);
+        }),
+      )
 
 -- how planning ends where the tables pass
 after-tables : (d : Given) → tables-check d ≡ Ok tt → planned d ≡ unless (cycles-check d) (deadlocked d) (accepted d)

@@ -1,10 +1,10 @@
 -- The least delays of a table are the smallest total delays over paths.
-use mathlib.Core.Path.{_≡_, refl, ap, sym, subst, _∙_}
+use mathlib.Core.Path.{_≡_, ap, subst}
 use mathlib.Core.List.{List, [], _∷_}
-use mathlib.Core.Logic.{_⊎_, ⊎-elim}
+use mathlib.Core.Logic.{⊎-elim}
 use Prim.Native.Nat.{ℕ, _+_, _-_, _*_, _<_, _≤_}
 use native.Mathlib.Omega.{arith}
-use lib.ListN.{length, replicate}
+use lib.ListN.{replicate}
 use Rattle.std.proofs.shelf.Lists.{length-replicate}
 use Rattle.records.specs.declared.tables.Edge.{Edge}
 use Rattle.records.specs.Tables.{edge}
@@ -43,9 +43,9 @@ module _ (n : ℕ) (es : List Edge) (within : Within n es) where
       ⊎-elim
       (λ (p : single u v ≡ delay-ops .none). let q = ap (λ (x : Delay). x .value) p in absurd (omega arith))
       (λ (r : (d : ℕ) × In (edge u v d) es × (single u v ≡ delay-ops .edge d)).
-        let q = ap (λ (x : Delay). x .value) (r .2) in
-        let e : r .0 ≡ single u v .value = omega arith in
-        subst (λ t. Path es u v t) e (last (r .1)))
+      let q = ap (λ (x : Delay). x .value) (r .2) in
+      let e : r .0 ≡ single u v .value = omega arith in
+      subst (λ t. Path es u v t) e (last (r .1)))
       (none-or-edge delay-laws n es within u v hu hv)
 
   of-walk : (u v : ℕ) (xs : List ℕ) → u < n → v < n → Below n xs → walk-value delay-ops single u xs v .value < 4294967295

@@ -11,9 +11,10 @@ Distinct f (x ∷ xs) = ((y : _) → Has y xs → f x ≡ f y → ⊥) × Distin
 module _ {X Y : Type 0} (f : X → Y) where
   pub distinct-++ : (xs ys : List X) → Distinct f xs → Distinct f ys → ((x y : X) → Has x xs → Has y ys → f x ≡ f y → ⊥) → Distinct f (xs ++ ys)
   distinct-++ [] ys d e apart = e
-  distinct-++ (x ∷ xs) ys d e apart =
-      ((λ y h q. elim (has-++ y xs ys h) [ inl l ↦ d .0 y l q | inr r ↦ apart x y (inl refl) r q ]),
-      distinct-++ xs ys (d .1) e (λ z y h k. apart z y (inr h) k))
+  distinct-++ (x ∷ xs) ys d e apart = (
+    (λ y h q. elim (has-++ y xs ys h) [ inl l ↦ d .0 y l q | inr r ↦ apart x y (inl refl) r q ]),
+    distinct-++ xs ys (d .1) e (λ z y h k. apart z y (inr h) k),
+  )
 
   -- no other place has the image of x
   pub distinct-split : (xs ys : List X) (x : X) → Distinct f (xs ++ (x ∷ ys)) → (y : X) → Has y (xs ++ ys) → f x ≡ f y → ⊥

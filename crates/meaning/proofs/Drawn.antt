@@ -1,21 +1,22 @@
 -- The edges of a drawing that passed the checks of its tables.
-use mathlib.Core.Path.{_≡_, refl, ap, sym, subst, _∙_}
+use mathlib.Core.Path.{_≡_, sym, subst}
 use mathlib.Core.List.{List, [], _∷_, _++_, map}
-use mathlib.Core.Logic.{_⊎_, inl, inr}
-use Prim.Native.Nat.{ℕ, zero, suc, _<_, _≤_}
+use mathlib.Core.Logic.{inl, inr}
+use Prim.Native.Nat.{ℕ, suc, _<_, _≤_}
 use native.Mathlib.Omega.{arith}
 use lib.ListN.{length, getD, take}
 use Rattle.std.specs.declared.result.Result.the-variants.{Ok}
 use Rattle.records.specs.declared.tables.Actor.{Actor}
 use Rattle.records.specs.declared.tables.Edge.{Edge}
 use Rattle.records.specs.declared.tables.Link.{Link}
-use Rattle.records.specs.Tables.{no-link, link-edge, processor-of}
+use Rattle.records.specs.Tables.{no-link, link-edge}
 use Rattle.waits.specs.Drawings.{Order}
-use Rattle.waits.specs.Events.{In, Within}
+use Rattle.waits.specs.Events.{In}
 use Rattle.waits.proofs.Paths.{in-++}
 use Rattle.planning.specs.Edges.{orders}
 use Rattle.planning.specs.Planning.{Given, tables-check, base-edges}
 use Rattle.planning.proofs.Passing.{Passed, tables-passed}
+use Rattle.meaning.proofs.Rising.{has-at, has-map}
 use Rattle.meaning.proofs.OrderEdges.{order-if-in}
 use Rattle.meaning.proofs.Reaching.{Small}
 
@@ -26,9 +27,7 @@ link-place (l ∷ ls) e (inl p) = (0, omega arith, p)
 link-place (l ∷ ls) e (inr i) = let r = link-place ls e i in (suc (r .0), omega (arith, r .1), r .2)
 
 pub link-in : (ls : List Link) (k : ℕ) → k < length ls → In (link-edge (getD ls k no-link)) (map link-edge ls)
-link-in [] k h = absurd (omega arith)
-link-in (l ∷ ls) zero h = inl refl
-link-in (l ∷ ls) (suc k) h = inr (link-in ls k (omega arith))
+link-in ls k h = has-map link-edge ls (getD ls k no-link) (has-at no-link ls k h)
 
 -- an order's edge joins actors, with delay 0 or 1
 order-small : (actors : List Actor) (e : Edge) → Order actors e → (e .sender < length actors) × (e .receiver < length actors) × (e .delay ≤ 1000)
@@ -43,9 +42,10 @@ pub small-with : (actors : List Actor) (ls : List Link) → length actors ≤ 64
     → ((k : ℕ) → k < length ls → Fine (length actors) (link-edge (getD ls k no-link))) → Small (length actors) (orders actors ++ map link-edge ls)
 small-with actors ls few fine =
     let one : (e : Edge) → In e (orders actors ++ map link-edge ls) → Fine (length actors) e = λ e i.
-      elim (in-++ e (orders actors) (map link-edge ls) i) [
-        inl j ↦ order-small actors e (order-if-in actors e j)
-      | inr j ↦ let r = link-place ls e j in subst (Fine (length actors)) (sym (r .2)) (fine (r .0) (r .1)) ] in
+    elim (in-++ e (orders actors) (map link-edge ls) i) [
+      | inl j ↦ order-small actors e (order-if-in actors e j)
+      | inr j ↦ let r = link-place ls e j in subst (Fine (length actors)) (sym (r .2)) (fine (r .0) (r .1))
+    ] in
     record { few = few; within = λ e i. (one e i .0, one e i .1); short = λ e i. one e i .2 }
 
 module _ (d : Given) (ok : tables-check d ≡ Ok tt) where

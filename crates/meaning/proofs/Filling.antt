@@ -1,8 +1,8 @@
 -- How far a sender can get ahead of a receiver: as far as the least delay back, and no further.
-use mathlib.Core.Path.{_≡_, refl, ap, sym, subst, _∙_}
-use mathlib.Core.Bool.{Bool, true, false, cond}
+use mathlib.Core.Path.{_≡_, refl, sym, subst, _∙_}
+use mathlib.Core.Bool.{cond}
 use mathlib.Core.List.{List}
-use mathlib.Core.Logic.{_⊎_, ⊎-elim}
+use mathlib.Core.Logic.{⊎-elim}
 use Prim.Native.Nat.{ℕ, _+_, _<_, _≤_, min, max}
 use native.Mathlib.Omega.{arith}
 use lib.Dec.{eqb}
@@ -34,7 +34,7 @@ module _ (n : ℕ) (es : List Edge) (small : Small n es) where
       let ends = small .within e i in
       ⊎-elim
       (λ (l : back v (e .sender) < 4294967295).
-        least-low n es (small .within) hv (ends .1) (path-joined (least-attained n es (small .within) v (e .sender) hv (ends .0) l) (last i)))
+      least-low n es (small .within) hv (ends .1) (path-joined (least-attained n es (small .within) v (e .sender) hv (ends .0) l) (last i)))
       (λ (l : 4294967295 ≤ back v (e .sender)). omega (arith, back-bounded v (e .receiver)))
       (cases-lt (back v (e .sender)) 4294967295)
 
@@ -67,8 +67,8 @@ module _ (n : ℕ) (es : List Edge) (small : Small n es) where
     steady x =
         ⊎-elim
         (λ (e : x ≡ v).
-          let low = least-low n es (small .within) hv hv turn in
-          subst (λ y. (done y ≤ far y) × (far y ≤ done y + 1)) (sym e) (omega (arith, done-at), omega (arith, done-at, far-is v)))
+        let low = least-low n es (small .within) hv hv turn in
+        subst (λ y. (done y ≤ far y) × (far y ≤ done y + 1)) (sym e) (omega (arith, done-at), omega (arith, done-at, far-is v)))
         (λ (d : x ≡ v → ⊥). (omega (arith, done-other x d), omega (arith, done-other x d)))
         (cases-eq x v)
 
@@ -76,8 +76,8 @@ module _ (n : ℕ) (es : List Edge) (small : Small n es) where
     allowed e i =
         ⊎-elim
         (λ (p : e .sender ≡ v).
-          let direct : Path es v (e .receiver) (e .delay) = subst (λ y. Path es y (e .receiver) (e .delay)) p (last i) in
-          omega (arith, least-low n es (small .within) hv (small .within e i .1) direct, far-is (e .receiver)))
+        let direct : Path es v (e .receiver) (e .delay) = subst (λ y. Path es y (e .receiver) (e .delay)) p (last i) in
+        omega (arith, least-low n es (small .within) hv (small .within e i .1) direct, far-is (e .receiver)))
         (λ (d : e .sender ≡ v → ⊥). omega (arith, done-other (e .sender) d, far-is (e .receiver), far-is (e .sender), back-step v hv e i))
         (cases-eq (e .sender) v)
 

@@ -6,24 +6,19 @@ use native.Mathlib.Nat.{zero-add}
 use native.Mathlib.Omega.{arith}
 use lib.ListN.{length, getD, take}
 use Rattle.std.specs.declared.result.Result.the-variants.{Ok}
-use Rattle.std.proofs.shelf.Lists.{getD-append-left, getD-append-right, getD-map, length-append, length-map}
-use Rattle.records.specs.declared.tables.Edge.{Edge}
+use Rattle.std.proofs.shelf.Lists.{getD-append-left, getD-append-right, getD-map, length-append}
 use Rattle.records.specs.declared.tables.Link.{Link}
 use Rattle.records.specs.Tables.{no-link, edge, link-edge}
 use Rattle.planning.specs.Marks.{mark-of, mark-link, marked, size-of, size-link}
-use Rattle.planning.specs.Planning.{Given, tables-check, ground, back-links, all-links, plan-delays, plan-links}
+use Rattle.planning.specs.Planning.{Given, tables-check, back-links, all-links, plan-delays, plan-links}
 use Rattle.planning.proofs.Numbered.{length-numbered, numbered-at}
 use Rattle.meaning.specs.Choices.{place}
-use Rattle.meaning.proofs.BackEnds.{fine-at, backs-fine}
-use Rattle.meaning.proofs.Drawn.{passed}
+use Rattle.meaning.proofs.BackEnds.{backs-fine}
+use Rattle.meaning.proofs.Drawn.{passed, base-small}
+use Rattle.meaning.proofs.Grounds.{known-tabled}
+use Rattle.meaning.proofs.Known.{given-known}
 
 module _ (d : Given) where
-  abbrev pub edges : List Edge
-  edges = map link-edge (all-links d)
-
-  abbrev given : List Link
-  given = take (d .given) (d .links)
-
   pub place-is : (i : ℕ) → i < length (all-links d) → place (map link-edge (all-links d)) i ≡ link-edge (getD (all-links d) i no-link)
   place-is i h = getD-map link-edge (all-links d) i no-link (edge 0 0 0) h
 
@@ -81,7 +76,7 @@ module _ (d : Given) where
     pub all-back-mark : (i : ℕ) → length (take (d .given) (d .links)) ≤ i → i < length (all-links d) → getD (all-links d) i no-link .mark ≡ 3
     all-back-mark i ge h =
         ap (λ l. l .mark) (getD-append-right (take (d .given) (d .links)) (back-links d) (length (take (d .given) (d .links))) i no-link refl ge)
-        ∙ fine-at (length (d .actors)) (back-links d) (backs-fine (ground d) (d .lead) (passed d ok .lead-high)) (i - length (take (d .given) (d .links))) (omega (arith, all-long)) .1
+        ∙ backs-fine (known-tabled (given-known d (base-small d ok))) (d .lead) (passed d ok .lead-high) (i - length (take (d .given) (d .links))) (omega (arith, all-long)) .1
 
     pub back-mark : (i : ℕ) → length (take (d .given) (d .links)) ≤ i → i < length (all-links d) → getD (plan-links d) i no-link .mark ≡ 3
     back-mark i ge h = ap (λ l. l .mark) (link-at i h) ∙ ap (λ l. l .mark) (back-link-at i ge) ∙ all-back-mark i ge h

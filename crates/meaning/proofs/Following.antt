@@ -1,10 +1,10 @@
 -- To follow a drawing is to obey its list of edges.
 use mathlib.Core.List.{List, _++_}
-use mathlib.Core.Logic.{_⊎_, inl, inr}
+use mathlib.Core.Logic.{inl, inr}
 use Rattle.records.specs.declared.tables.Actor.{Actor}
 use Rattle.records.specs.declared.tables.Edge.{Edge}
-use Rattle.waits.specs.Drawings.{Follows, Order, Enforced}
-use Rattle.waits.specs.Events.{Event, In, Lawful, Obeys, Obeys-all, Enforces}
+use Rattle.waits.specs.Drawings.{Follows, Enforced}
+use Rattle.waits.specs.Events.{Event, Lawful, Obeys-all, Enforces}
 use Rattle.waits.proofs.Paths.{in-++}
 use Rattle.planning.specs.Edges.{orders}
 use Rattle.meaning.proofs.Chosen.{in-left, in-right}
@@ -20,8 +20,9 @@ module _ (actors : List Actor) (links : List Edge) (xs : List Event) where
 
   pub obeys-edges : Follows actors links xs → Obeys-all xs (orders actors ++ links)
   obeys-edges f e i = elim (in-++ e (orders actors) links i) [
-      inl j ↦ f .obeys-orders e (order-if-in actors e j)
-    | inr j ↦ f .obeys-links e j ]
+    | inl j ↦ f .obeys-orders e (order-if-in actors e j)
+    | inr j ↦ f .obeys-links e j
+  ]
 
 -- enforced by the drawing, or by its list of edges
 pub enforced : (actors : List Actor) (links : List Edge) (e : Edge) → Enforces (orders actors ++ links) e → Enforced actors links e

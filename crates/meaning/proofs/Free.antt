@@ -1,20 +1,19 @@
 -- The yes/no table of delay-free edges tells which closed paths have total delay 0.
 use mathlib.Core.Path.{_≡_, refl, ap, sym, subst, _∙_}
-use mathlib.Core.Bool.{Bool, true, false, _&&_, _||_}
+use mathlib.Core.Bool.{Bool, true, false, _||_}
 use mathlib.Core.List.{List, [], _∷_}
-use mathlib.Core.Logic.{_⊎_, ⊎-elim}
-use Prim.Native.Nat.{ℕ, _+_, _*_, _<_, _≤_}
+use mathlib.Core.Logic.{⊎-elim}
+use Prim.Native.Nat.{ℕ, _*_, _<_}
 use native.Mathlib.Omega.{arith}
-use lib.Dec.{eqb}
-use lib.ListN.{length, replicate}
+use lib.ListN.{replicate}
 use Rattle.std.proofs.shelf.Lists.{length-replicate}
-use Rattle.std.proofs.shelf.Tests.{and-parts, and-from, or-cases, eqb-true, eq-eqb, both-ways}
+use Rattle.std.proofs.shelf.Tests.{and-parts, and-from, eqb-true, eq-eqb, both-ways}
 use Rattle.records.specs.declared.tables.Edge.{Edge}
 use Rattle.records.specs.Tables.{edge}
 use Rattle.waits.specs.Events.{In, Within, Path, last, step}
 use Rattle.waits.proofs.Paths.{path-joined}
 use Rattle.paths.specs.Closure.{entry}
-use Rattle.paths.specs.Models.{reach, reach-ops, reach-laws}
+use Rattle.paths.specs.Models.{reach-ops, reach-laws}
 use Rattle.paths.specs.Walks.{walk-value, Below}
 use Rattle.paths.specs.declared.reach.Reach.{Reach}
 use Rattle.paths.proofs.Bests.{chosen}
@@ -50,8 +49,8 @@ module _ (n : ℕ) (es : List Edge) (within : Within n es) where
       ⊎-elim
       (λ (p : single u v ≡ reach-ops .none). absurd (both-ways (single u v .yes) (ap (λ (x : Reach). x .yes) p) t))
       (λ (r : (d : ℕ) × In (edge u v d) es × (single u v ≡ reach-ops .edge d)).
-        let z = eqb-true (r .0) 0 (sym (ap (λ (x : Reach). x .yes) (r .2)) ∙ t) in
-        subst (λ k. Path es u v k) z (last (r .1)))
+      let z = eqb-true (r .0) 0 (sym (ap (λ (x : Reach). x .yes) (r .2)) ∙ t) in
+      subst (λ k. Path es u v k) z (last (r .1)))
       (none-or-edge reach-laws n es within u v hu hv)
 
   of-walk : (u v : ℕ) (xs : List ℕ) → u < n → v < n → Below n xs → walk-value reach-ops single u xs v .yes ≡ true → Path es u v 0

@@ -1,138 +1,139 @@
--- What the tables of a ground say: who reaches whom, and who shares a group or a part.
-use mathlib.Core.Path.{_≡_, refl, ap, sym, subst, _∙_}
-use mathlib.Core.Bool.{Bool, true}
-use mathlib.Core.List.{List, [], _∷_}
-use mathlib.Core.Logic.{_⊎_, inl, inr, ⊎-elim}
+-- What the tests on the tables of a ground decide, where the tables are those of some edges.
+use mathlib.Core.Path.{_≡_, refl, sym, subst}
+use mathlib.Core.Bool.{Bool, true, false, not, _||_}
+use mathlib.Core.List.{List}
+use mathlib.Core.Logic.{inl, inr}
 use Prim.Native.Nat.{ℕ, _<_}
-use lib.ListN.{length}
-use Rattle.std.proofs.shelf.Tests.{and-parts, and-from}
+use native.Mathlib.Omega.{arith}
+use Rattle.std.specs.Orderings.{Decides}
+use Rattle.std.proofs.shelf.Tests.{cases-lt, or-parts, not-false, not-true, false≢true}
+use Rattle.std.proofs.shelf.Ways.{decides-and, decides-not, decides-like, not-from-decides}
 use Rattle.records.specs.declared.tables.Edge.{Edge}
-use Rattle.records.specs.Tables.{edge, processor-of}
-use Rattle.waits.specs.Events.{In, Path, last, step}
-use Rattle.waits.proofs.Paths.{path-joined}
+use Rattle.records.specs.Tables.{processor-of}
+use Rattle.waits.specs.Events.{last}
+use Rattle.planning.specs.declared.End.{End}
+use Rattle.planning.specs.declared.End.the-variants.{Entry as at-entry, Exit as at-exit}
 use Rattle.planning.specs.Tables.{least-delays, parts}
-use Rattle.planning.specs.Groups.{reaches, same-group, same-part}
-use Rattle.planning.specs.Backs.{Ground}
+use Rattle.planning.specs.Groups.{all-below, reaches, same-group, same-part, end-group, opens-group, opens-part, grouped-if-joined, one-group}
+use Rattle.planning.specs.Backs.{Ground, count, heads, wants-backs}
+use Rattle.meaning.specs.Components.{Reaches, Group, Joined, Entry, Exit, Lowest, Several}
 use Rattle.meaning.proofs.Known.{Known}
-use Rattle.meaning.proofs.Laid.{both-ways}
-use Rattle.meaning.proofs.Delays.{least}
-use Rattle.meaning.proofs.Reaching.{Small, reaches-path, path-reaches}
-use Rattle.meaning.proofs.Joining.{joined-path, path-joined-part}
-
-abbrev pub reach : Ground → ℕ → ℕ → Bool
-reach g u v = reaches (length (g .actors)) (g .delays) u v
+use Rattle.meaning.proofs.Reaching.{Small}
+use Rattle.meaning.proofs.Tallies.{below-decides, one-fails}
+use Rattle.meaning.proofs.Groups.{reaches-on, group-on, group-back, into-entry, out-of-exit, reaches-decides, group-decides, part-decides}
 
 abbrev pub group : Ground → ℕ → ℕ → Bool
-group g u v = same-group (length (g .actors)) (g .delays) u v
+group g u v = same-group (count g) (g .delays) u v
 
 abbrev pub part : Ground → ℕ → ℕ → Bool
-part g u v = same-part (length (g .actors)) (g .joined) u v
+part g u v = same-part (count g) (g .joined) u v
 
--- an edge one way or the other
-either-way : (es : List Edge) (u v d : ℕ) → In (edge u v d) (both-ways es) → (c : ℕ) × (In (edge u v c) es ⊎ In (edge v u c) es)
-either-way [] u v d i = absurd i
-either-way (e ∷ es) u v d (inl p) =
-    let s : u ≡ e .sender = ap (λ (x : Edge). x .sender) p in let r : v ≡ e .receiver = ap (λ (x : Edge). x .receiver) p in
-    (e .delay, inl (inl (ap (λ x. edge x v (e .delay)) s ∙ ap (λ x. edge (e .sender) x (e .delay)) r)))
-either-way (e ∷ es) u v d (inr (inl p)) =
-    let s : u ≡ e .receiver = ap (λ (x : Edge). x .sender) p in let r : v ≡ e .sender = ap (λ (x : Edge). x .receiver) p in
-    (e .delay, inr (inl (ap (λ x. edge x u (e .delay)) r ∙ ap (λ x. edge (e .sender) x (e .delay)) s)))
-either-way (e ∷ es) u v d (inr (inr i)) =
-    let f = either-way es u v d i in (f .0, ⊎-elim (λ (j : In (edge u v (f .0)) es). inl (inr j)) (λ (j : In (edge v u (f .0)) es). inr (inr j)) (f .1))
+decides-if : {P Q : Type 0} (x y : Bool) → Decides x P → Decides y Q → Decides (not x || y) (P → Q)
+decides-if true y dx dy = (λ t _. dy .0 t, λ f. dy .1 (f (dx .0 refl)))
+decides-if false y dx dy = (λ _ p. absurd (false≢true (dx .1 p)), λ _. refl)
 
-in-both-ways : (es : List Edge) (u v d : ℕ) → In (edge u v d) es → In (edge u v 0) (both-ways es) × In (edge v u 0) (both-ways es)
-in-both-ways [] u v d i = absurd i
-in-both-ways (e ∷ es) u v d (inl p) =
-    let s : u ≡ e .sender = ap (λ (x : Edge). x .sender) p in let r : v ≡ e .receiver = ap (λ (x : Edge). x .receiver) p in
-    (inl (ap (λ x. edge x v 0) s ∙ ap (λ x. edge (e .sender) x 0) r), inr (inl (ap (λ x. edge x u 0) r ∙ ap (λ x. edge (e .receiver) x 0) s)))
-in-both-ways (e ∷ es) u v d (inr i) = let f = in-both-ways es u v d i in (inr (inr (f .0)), inr (inr (f .1)))
+-- the lowest of those that pass a test
+lowest-decides : (n u : ℕ) (test : ℕ → Bool) (Shares : ℕ → ℕ → Type 0) → u < n → ((w : ℕ) → w < n → Decides (test w) (Shares u w))
+    → Decides (all-below (λ w. not (test w)) u) (Lowest n Shares u)
+lowest-decides n u test Shares hu each =
+    decides-like _
+    (λ none w h s. elim (cases-lt w u) [ inl l ↦ absurd (none w l s) | inr l ↦ l ])
+    (λ low w h s. omega (arith, low w (omega arith) s))
+    (below-decides (λ w. not (test w)) (λ w. Shares u w → ⊥) u (λ w h. decides-not _ (each w (omega arith))))
 
-loose : {es : List Edge} {u v t : ℕ} → Path es u v t → Path (both-ways es) u v 0
-loose {es} (last {u} {v} {d} i) = last (in-both-ways es u v d i .0)
-loose {es} (step {u} {w} d i p) = path-joined {c = 0} {d = 0} (last (in-both-ways es u w d i .0)) (loose p)
+-- the tables of the ground are those of es, over which each actor reaches itself
+pub record Tabled (g : Ground) (es : List Edge) : Type 0 where
+  pub small : Small (count g) es
+  pub delays : g .delays ≡ least-delays (count g) es
+  pub joined : g .joined ≡ parts (count g) es
+  pub self : (x : ℕ) → x < count g → Reaches es x x
 
-loose-back : {es : List Edge} {u v t : ℕ} → Path es u v t → Path (both-ways es) v u 0
-loose-back {es} (last {u} {v} {d} i) = last (in-both-ways es u v d i .1)
-loose-back {es} (step {u} {w} d i p) = path-joined {c = 0} {d = 0} (loose-back p) (last (in-both-ways es u w d i .1))
+pub known-tabled : {g : Ground} {es : List Edge} → Known g es → Tabled g es
+known-tabled known = record { small = known .small; delays = known .delays; joined = known .joined; self = λ x h. (1, known .turns x x h h refl) }
 
-flip-path : (es : List Edge) {u v t : ℕ} → Path (both-ways es) u v t → Path (both-ways es) v u 0
-flip-path es (last {u} {v} {d} i) =
-    let f = either-way es u v d i in
-    ⊎-elim (λ (j : In (edge u v (f .0)) es). last (in-both-ways es u v (f .0) j .1)) (λ (j : In (edge v u (f .0)) es). last (in-both-ways es v u (f .0) j .0)) (f .1)
-flip-path es (step {u} {w} d i p) =
-    let f = either-way es u w d i in
-    path-joined {c = 0} {d = 0} (flip-path es p)
-    (⊎-elim (λ (j : In (edge u w (f .0)) es). last (in-both-ways es u w (f .0) j .1)) (λ (j : In (edge w u (f .0)) es). last (in-both-ways es w u (f .0) j .0)) (f .1))
+-- one processor, one group
+pub group-round : {g : Ground} {es : List Edge} → Known g es → (u v : ℕ) → u < count g → v < count g → processor-of (g .actors) u ≡ processor-of (g .actors) v → Group es u v
+group-round known u v hu hv e = ((1, known .turns u v hu hv e), (1, known .turns v u hv hu (sym e)))
 
--- what an edge hands on, either way, is handed on along a path
-handed-on : (es : List Edge) (C : ℕ → Type 0) → ((x y d : ℕ) → In (edge x y d) es ⊎ In (edge y x d) es → C x → C y)
-    → {u v t : ℕ} → Path (both-ways es) u v t → C u → C v
-handed-on es C hand (last {u} {v} {d} i) c = let f = either-way es u v d i in hand u v (f .0) (f .1) c
-handed-on es C hand (step {u} {w} d i p) c = let f = either-way es u w d i in handed-on es C hand p (hand u w (f .0) (f .1) c)
+-- the group of u is an entry group, or an exit group
+abbrev pub Ends : List Edge → End → ℕ → Type 0
+Ends es at-entry u = Entry es u
+Ends es at-exit u = Exit es u
 
-module _ (g : Ground) where
-  pub group-from : (u v : ℕ) → reach g u v ≡ true → reach g v u ≡ true → group g u v ≡ true
-  group-from u v a b = and-from (reach g u v) (reach g v u) a b
+-- it is that for each of its actors
+pub ends-shared : (es : List Edge) (end : End) (u w : ℕ) → Group es u w → Ends es end u → Ends es end w
+ends-shared es at-entry u w i ends = λ e h k. group-on (group-back i) (ends e h (group-on i k))
+ends-shared es at-exit u w i ends = λ e h k. group-on (group-back i) (ends e h (group-on i k))
 
-  pub group-there : (u v : ℕ) → group g u v ≡ true → reach g u v ≡ true
-  group-there u v a = and-parts (reach g u v) (reach g v u) a .0
+-- u is the lowest actor of an entry or exit group in the part of p
+pub record Head (g : Ground) (es : List Edge) (end : End) (p u : ℕ) : Type 0 where
+  pub under : u < count g
+  pub joined : Joined es p u
+  pub lowest : Lowest (count g) (Group es) u
+  pub ends : Ends es end u
 
-  pub group-back : (u v : ℕ) → group g u v ≡ true → reach g v u ≡ true
-  group-back u v a = and-parts (reach g u v) (reach g v u) a .1
+-- p is the lowest actor of its part, and its part has several groups
+abbrev pub Wants : Ground → List Edge → ℕ → Type 0
+Wants g es p = Lowest (count g) (Joined es) p × Several (count g) es p
 
-  pub group-flip : (u v : ℕ) → group g u v ≡ true → group g v u ≡ true
-  group-flip u v a = group-from v u (group-back u v a) (group-there u v a)
-
-module _ (g : Ground) (es : List Edge) (known : Known g es) where
+module _ {g : Ground} {es : List Edge} (t : Tabled g es) where
   abbrev n : ℕ
-  n = length (g .actors)
+  n = count g
 
-  pub reach-path : (u v : ℕ) → u < n → v < n → reach g u v ≡ true → (t : ℕ) × Path es u v t
-  reach-path u v hu hv r =
-      (least n es (known .small .within) u v, reaches-path n es (known .small) u v hu hv (subst (λ x. reaches n x u v ≡ true) (known .delays) r))
+  pub at-reach : (u v : ℕ) → u < n → v < n → Decides (reaches n (g .delays) u v) (Reaches es u v)
+  at-reach u v hu hv = subst (λ c. Decides (reaches n c u v) (Reaches es u v)) (sym (t .delays)) (reaches-decides n es (t .small) u v hu hv)
 
-  pub path-reach : (u v : ℕ) → u < n → v < n → {t : ℕ} → Path es u v t → reach g u v ≡ true
-  path-reach u v hu hv p = subst (λ x. reaches n x u v ≡ true) (sym (known .delays)) (path-reaches n es (known .small) u v hu hv p)
+  pub at-group : (u v : ℕ) → u < n → v < n → Decides (group g u v) (Group es u v)
+  at-group u v hu hv = subst (λ c. Decides (same-group n c u v) (Group es u v)) (sym (t .delays)) (group-decides n es (t .small) u v hu hv)
 
-  pub part-path : (u v : ℕ) → u < n → v < n → part g u v ≡ true → Path (both-ways es) u v 0
-  part-path u v hu hv r = joined-path n es (known .small .within) u v hu hv (subst (λ x. same-part n x u v ≡ true) (known .joined) r)
+  pub at-part : (u v : ℕ) → u < n → v < n → Decides (part g u v) (Joined es u v)
+  at-part u v hu hv = subst (λ c. Decides (same-part n c u v) (Joined es u v)) (sym (t .joined)) (part-decides n es (t .small) u v hu hv)
 
-  pub path-part : (u v : ℕ) → u < n → v < n → Path (both-ways es) u v 0 → part g u v ≡ true
-  path-part u v hu hv p = subst (λ x. same-part n x u v ≡ true) (sym (known .joined)) (path-joined-part n es (known .small .within) u v hu hv p)
+  pub at-opens-group : (u : ℕ) → u < n → Decides (opens-group n (g .delays) u) (Lowest n (Group es) u)
+  unfolding opens-group
+  at-opens-group u hu = lowest-decides n u (group g u) (Group es) hu (λ w h. at-group u w hu h)
 
-  pub reach-itself : (u : ℕ) → u < n → reach g u u ≡ true
-  reach-itself u h = path-reach u u h h (known .turns u u h h refl)
+  pub at-opens-part : (u : ℕ) → u < n → Decides (opens-part n (g .joined) u) (Lowest n (Joined es) u)
+  unfolding opens-part
+  at-opens-part u hu = lowest-decides n u (part g u) (Joined es) hu (λ w h. at-part u w hu h)
 
-  pub reach-through : (u w v : ℕ) → u < n → w < n → v < n → reach g u w ≡ true → reach g w v ≡ true → reach g u v ≡ true
-  reach-through u w v hu hw hv a b = path-reach u v hu hv (path-joined (reach-path u w hu hw a .1) (reach-path w v hw hv b .1))
+  at-one-group : (u : ℕ) → u < n → Decides (one-group n (g .delays) (g .joined) u) ((w : ℕ) → w < n → Joined es u w → Group es u w)
+  unfolding one-group
+  at-one-group u hu = below-decides _ (λ w. Joined es u w → Group es u w) n (λ w h. decides-if _ _ (at-part u w hu h) (at-group u w hu h))
 
-  pub group-itself : (u : ℕ) → u < n → group g u u ≡ true
-  group-itself u h = group-from g u u (reach-itself u h) (reach-itself u h)
+  at-several : (u : ℕ) → u < n → Decides (not (one-group n (g .delays) (g .joined) u)) (Several n es u)
+  unfolding one-group
+  at-several u hu = (
+    λ k.
+        let (w, h, f) = one-fails (grouped-if-joined n (g .delays) (g .joined) u) n (not-true _ k) in
+        let both = or-parts _ _ f in
+        (w, h, at-part u w hu h .0 (not-false _ (both .0)), not-from-decides _ (at-group u w hu h) (both .1)),
+    λ s. decides-not _ (at-one-group u hu) .1 (λ all. s .3 (all (s .0) (s .1) (s .2))),
+  )
 
-  pub group-through : (u w v : ℕ) → u < n → w < n → v < n → group g u w ≡ true → group g w v ≡ true → group g u v ≡ true
-  group-through u w v hu hw hv a b =
-      group-from g u v (reach-through u w v hu hw hv (group-there g u w a) (group-there g w v b)) (reach-through v w u hv hw hu (group-back g w v b) (group-back g u w a))
+  pub at-wants : (p : ℕ) → p < n → Decides (wants-backs g p) (Wants g es p)
+  at-wants p hp = decides-and _ _ (at-opens-part p hp) (at-several p hp)
 
-  -- one processor, one group
-  pub group-round : (u v : ℕ) → u < n → v < n → processor-of (g .actors) u ≡ processor-of (g .actors) v → group g u v ≡ true
-  group-round u v hu hv e = group-from g u v (path-reach u v hu hv (known .turns u v hu hv e)) (path-reach v u hv hu (known .turns v u hv hu (sym e)))
+  -- a group is an entry group if whoever reaches it is reached from it, and an exit group if whoever it reaches reaches it
+  pub at-end : (end : End) (u : ℕ) → u < n → Decides (end-group end n (g .delays) u) (Ends es end u)
+  unfolding end-group
+  at-end at-entry u hu =
+      decides-like _
+      (λ answers e i m.
+      let back = reaches-on {w = e .receiver} (e .delay, last i) (m .1) in
+      (answers (e .sender) (t .small .within e i .0) back, back))
+      (λ entry w h r. into-entry entry (r .1) (t .self u hu, t .self u hu) .0)
+      (below-decides _ (λ w. Reaches es w u → Reaches es u w) n (λ w h. decides-if _ _ (at-reach w u h hu) (at-reach u w hu h)))
+  at-end at-exit u hu =
+      decides-like _
+      (λ answers e i m.
+      let there = reaches-on {w = e .sender} (m .0) (e .delay, last i) in
+      (there, answers (e .receiver) (t .small .within e i .1) there))
+      (λ exit w h r. out-of-exit exit (r .1) (t .self u hu, t .self u hu) .1)
+      (below-decides _ (λ w. Reaches es u w → Reaches es w u) n (λ w h. decides-if _ _ (at-reach u w hu h) (at-reach w u h hu)))
 
-  pub reach-part : (u v : ℕ) → u < n → v < n → reach g u v ≡ true → part g u v ≡ true
-  reach-part u v hu hv r = path-part u v hu hv (loose (reach-path u v hu hv r .1))
-
-  pub part-itself : (u : ℕ) → u < n → part g u u ≡ true
-  part-itself u h = reach-part u u h h (reach-itself u h)
-
-  pub part-flip : (u v : ℕ) → u < n → v < n → part g u v ≡ true → part g v u ≡ true
-  part-flip u v hu hv r = path-part v u hv hu (flip-path es (part-path u v hu hv r))
-
-  pub part-through : (u w v : ℕ) → u < n → w < n → v < n → part g u w ≡ true → part g w v ≡ true → part g u v ≡ true
-  part-through u w v hu hw hv a b = path-part u v hu hv (path-joined {c = 0} {d = 0} (part-path u w hu hw a) (part-path w v hw hv b))
-
-  -- what an edge hands on, either way, is handed on within a part
-  pub part-hands : (C : ℕ → Type 0) → ((x y d : ℕ) → In (edge x y d) es ⊎ In (edge y x d) es → C x → C y)
-      → (u v : ℕ) → u < n → v < n → part g u v ≡ true → C u → C v
-  part-hands C hand u v hu hv r c = handed-on es C hand (part-path u v hu hv r) c
-
-  pub edge-reach : (u v d : ℕ) → In (edge u v d) es → (u < n) × (v < n) × (reach g u v ≡ true)
-  edge-reach u v d i = let ends = known .small .within (edge u v d) i in (ends .0, ends .1, path-reach u v (ends .0) (ends .1) (last i))
+  pub at-head : (end : End) (p u : ℕ) → p < n → u < n → Decides (heads g end p u) (Head g es end p u)
+  unfolding heads
+  at-head end p u hp hu =
+      decides-like _ (λ h. record { under = hu; joined = h .0; lowest = h .1 .0; ends = h .1 .1 }) (λ h. (h .joined, (h .lowest, h .ends)))
+      (decides-and _ _ (at-part p u hp hu) (decides-and _ _ (at-opens-group u hu) (at-end end u hu)))

@@ -1,19 +1,18 @@
 -- Who shares a part, by the yes/no table: exactly those joined when direction is ignored.
 use mathlib.Core.Path.{_≡_, refl, ap, sym, subst, _∙_}
-use mathlib.Core.Bool.{Bool, true}
+use mathlib.Core.Bool.{true}
 use mathlib.Core.List.{List, [], _∷_}
-use mathlib.Core.Logic.{_⊎_, inl, inr}
+use mathlib.Core.Logic.{inl, inr}
 use Prim.Native.Nat.{ℕ, _*_, _<_}
 use lib.ListN.{replicate}
 use Rattle.records.specs.declared.tables.Edge.{Edge}
-use Rattle.records.specs.Tables.{edge}
-use Rattle.waits.specs.Events.{In, Within, Path}
+use Rattle.waits.specs.Events.{Within, Path}
 use Rattle.paths.specs.Closure.{entry, closed}
 use Rattle.paths.specs.Models.{reach-ops}
 use Rattle.planning.specs.Groups.{same-part}
 use Rattle.planning.specs.Tables.{paths-over, parts, delay-free}
 use Rattle.meaning.proofs.Laid.{both-ways, laid-loose}
-use Rattle.meaning.proofs.Free.{free, free-if-path, path-if-free}
+use Rattle.meaning.proofs.Free.{free-if-path, path-if-free}
 
 pub both-ways-within : (n : ℕ) (es : List Edge) → Within n es → Within n (both-ways es)
 both-ways-within n [] w e i = absurd i

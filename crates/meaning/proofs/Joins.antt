@@ -1,5 +1,5 @@
 -- Actors are joined exactly where a path leads over the edges without direction.
-use mathlib.Core.Path.{_≡_, ap}
+use mathlib.Core.Path.{ap}
 use mathlib.Core.List.{List, [], _∷_}
 use mathlib.Core.Logic.{_⊎_, inl, inr}
 use Prim.Native.Nat.{ℕ}
@@ -22,6 +22,12 @@ pub joined-back : {es : List Edge} {u v : ℕ} → Joined es u v → Joined es v
 joined-back (along d h) = against d h
 joined-back (against d h) = along d h
 joined-back (on p q) = on (joined-back q) (joined-back p)
+
+-- what an edge hands on, either way, is handed on to all that are joined
+pub handed-on : (es : List Edge) (C : ℕ → Type 0) → ((x y d : ℕ) → In (edge x y d) es ⊎ In (edge y x d) es → C x → C y) → {u v : ℕ} → Joined es u v → C u → C v
+handed-on es C hand (along {u} {v} d i) c = hand u v d (inl i) c
+handed-on es C hand (against {u} {v} d i) c = hand v u d (inr i) c
+handed-on es C hand (on p q) c = handed-on es C hand q (handed-on es C hand p c)
 
 -- an edge without direction and delay is one of es, there or back
 both-from : (es : List Edge) (e : Edge) → In e (both-ways es) → (d : ℕ) × (In (edge (e .sender) (e .receiver) d) es ⊎ In (edge (e .receiver) (e .sender) d) es)

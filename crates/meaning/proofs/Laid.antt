@@ -1,10 +1,10 @@
 -- The entries of a table into which edges were laid: each is the choice over the edges between its actors.
 use mathlib.Core.Path.{_≡_, refl, ap, sym, subst, _∙_}
 use mathlib.Core.List.{List, [], _∷_}
-use mathlib.Core.Logic.{_⊎_, inl, inr, ⊎-elim, _≢_}
+use mathlib.Core.Logic.{_⊎_, inl, inr, ⊎-elim}
 use Prim.Native.Nat.{ℕ, _+_, _*_, _/_, _%_, _<_, _≤_}
 use native.Mathlib.Omega.{arith}
-use lib.ListN.{length, getD, set, replicate}
+use lib.ListN.{length, getD, replicate}
 use Rattle.std.proofs.shelf.Bits.{mul-add-lt, div-mul-add, mod-mul-add}
 use Rattle.std.proofs.shelf.Lists.{getD-set-same, getD-set-other, getD-replicate, length-replicate, length-set}
 use Rattle.std.proofs.shelf.Tests.{cases-eq}
@@ -19,9 +19,10 @@ use Rattle.planning.specs.Tables.{lay, laid}
 
 -- where two entries are the same
 same-place : (n u v x y : ℕ) → v < n → y < n → u * n + v ≡ x * n + y → (u ≡ x) × (v ≡ y)
-same-place n u v x y hv hy e =
-    (sym (div-mul-add u n v hv) ∙ ap (λ p. p / n) e ∙ div-mul-add x n y hy,
-    sym (mod-mul-add u n v hv) ∙ ap (λ p. p % n) e ∙ mod-mul-add x n y hy)
+same-place n u v x y hv hy e = (
+  sym (div-mul-add u n v hv) ∙ ap (λ p. p / n) e ∙ div-mul-add x n y hy,
+  sym (mod-mul-add u n v hv) ∙ ap (λ p. p % n) e ∙ mod-mul-add x n y hy,
+)
 
 module _ {M : Type 0} {o : Ops M} (laws : Laws o) (n : ℕ) where
   module _ (cells : List M) (e : Edge) (room : n * n ≤ length cells) (ends : (e .sender < n) × (e .receiver < n)) where
@@ -37,8 +38,8 @@ module _ {M : Type 0} {o : Ops M} (laws : Laws o) (n : ℕ) where
     laid-entry u v hu hv =
         ⊎-elim
         (λ (p : u * n + v ≡ e .sender * n + e .receiver).
-          let ends′ = same-place n u v (e .sender) (e .receiver) hv (ends .1) p in
-          inr (ends′ .0, ends′ .1, ap (λ k. getD (lay o n cells e) k (o .none)) p ∙ laid-here ∙ ap (λ k. o .choose (getD cells k (o .none)) (o .edge (e .delay))) (sym p)))
+        let ends′ = same-place n u v (e .sender) (e .receiver) hv (ends .1) p in
+        inr (ends′ .0, ends′ .1, ap (λ k. getD (lay o n cells e) k (o .none)) p ∙ laid-here ∙ ap (λ k. o .choose (getD cells k (o .none)) (o .edge (e .delay))) (sym p)))
         (λ (d : u * n + v ≡ e .sender * n + e .receiver → ⊥). inl (getD-set-other cells (e .sender * n + e .receiver) (u * n + v) _ (o .none) d))
         (cases-eq (u * n + v) (e .sender * n + e .receiver))
 
@@ -48,7 +49,7 @@ module _ {M : Type 0} {o : Ops M} (laws : Laws o) (n : ℕ) where
         ⊎-elim
         (λ (p : entry o (lay o n cells e) n u v ≡ entry o cells n u v). subst (λ x. Wins o x (entry o cells n u v)) (sym p) (same laws (entry o cells n u v)))
         (λ (q : (u ≡ e .sender) × (v ≡ e .receiver) × (entry o (lay o n cells e) n u v ≡ o .choose (entry o cells n u v) (o .edge (e .delay)))).
-          subst (λ x. Wins o x (entry o cells n u v)) (sym (q .2)) (wins-left laws (entry o cells n u v) (o .edge (e .delay))))
+        subst (λ x. Wins o x (entry o cells n u v)) (sym (q .2)) (wins-left laws (entry o cells n u v) (o .edge (e .delay))))
         (laid-entry u v hu hv)
 
   all-win : (cells : List M) (es : List Edge) → n * n ≤ length cells → Within n es → (u v : ℕ) → u < n → v < n
@@ -68,7 +69,7 @@ module _ {M : Type 0} {o : Ops M} (laws : Laws o) (n : ℕ) where
       let ends = within f (inl refl) in
       subst (λ x. Wins o (entry o (laid Directed o n (lay o n cells f) es) n (x .sender) (x .receiver)) (o .edge (x .delay))) (sym p)
       (goes laws _ _ _ (all-win (lay o n cells f) es room′ (λ g i. within g (inr i)) (f .sender) (f .receiver) (ends .0) (ends .1))
-        (subst (λ x. Wins o x (o .edge (f .delay))) (sym (laid-here cells f room ends)) (wins-right laws (entry o cells n (f .sender) (f .receiver)) (o .edge (f .delay)))))
+      (subst (λ x. Wins o x (o .edge (f .delay))) (sym (laid-here cells f room ends)) (wins-right laws (entry o cells n (f .sender) (f .receiver)) (o .edge (f .delay)))))
   edge-loses cells (f ∷ es) room within e (inr i) =
       edge-loses (lay o n cells f) es (omega (arith, length-set cells (f .sender * n + f .receiver) (o .choose (entry o cells n (f .sender) (f .receiver)) (o .edge (f .delay))))) (λ g j. within g (inr j)) e i
 
@@ -82,15 +83,15 @@ module _ {M : Type 0} {o : Ops M} (laws : Laws o) (n : ℕ) where
       let T = laid Directed o n (lay o n cells e) es in
       ⊎-elim
       (λ (p : entry o T n u v ≡ entry o (lay o n cells e) n u v).
-        ⊎-elim
-        (λ (q : entry o (lay o n cells e) n u v ≡ entry o cells n u v). inl (p ∙ q))
-        (λ (q : (u ≡ e .sender) × (v ≡ e .receiver) × (entry o (lay o n cells e) n u v ≡ o .choose (entry o cells n u v) (o .edge (e .delay)))).
-          ⊎-elim
-          (λ (r : o .choose (entry o cells n u v) (o .edge (e .delay)) ≡ entry o cells n u v). inl (p ∙ q .2 ∙ r))
-          (λ (r : o .choose (entry o cells n u v) (o .edge (e .delay)) ≡ o .edge (e .delay)).
-            inr (e .delay, inl (ap (λ x. edge x v (e .delay)) (q .0) ∙ ap (λ y. edge (e .sender) y (e .delay)) (q .1)), p ∙ q .2 ∙ r))
-          (laws .choose-one (entry o cells n u v) (o .edge (e .delay))))
-        (laid-entry cells e room (within e (inl refl)) u v hu hv))
+      ⊎-elim
+      (λ (q : entry o (lay o n cells e) n u v ≡ entry o cells n u v). inl (p ∙ q))
+      (λ (q : (u ≡ e .sender) × (v ≡ e .receiver) × (entry o (lay o n cells e) n u v ≡ o .choose (entry o cells n u v) (o .edge (e .delay)))).
+      ⊎-elim
+      (λ (r : o .choose (entry o cells n u v) (o .edge (e .delay)) ≡ entry o cells n u v). inl (p ∙ q .2 ∙ r))
+      (λ (r : o .choose (entry o cells n u v) (o .edge (e .delay)) ≡ o .edge (e .delay)).
+      inr (e .delay, inl (ap (λ x. edge x v (e .delay)) (q .0) ∙ ap (λ y. edge (e .sender) y (e .delay)) (q .1)), p ∙ q .2 ∙ r))
+      (laws .choose-one (entry o cells n u v) (o .edge (e .delay))))
+      (laid-entry cells e room (within e (inl refl)) u v hu hv))
       (λ (r : (d : ℕ) × In (edge u v d) es × (entry o T n u v ≡ o .edge d)). inr (r .0, inr (r .1), r .2))
       (from-edges (lay o n cells e) es room′ (λ f i. within f (inr i)) u v hu hv)
 
@@ -103,7 +104,7 @@ module _ {M : Type 0} {o : Ops M} (laws : Laws o) (n : ℕ) where
   none-or-edge es within u v hu hv =
       ⊎-elim
       (λ (p : entry o (edge-table es) n u v ≡ entry o (replicate (n * n) (o .none)) n u v).
-        inl (p ∙ getD-replicate (n * n) (u * n + v) (o .none) (o .none) (omega (arith, mul-add-lt u n v n hu hv))))
+      inl (p ∙ getD-replicate (n * n) (u * n + v) (o .none) (o .none) (omega (arith, mul-add-lt u n v n hu hv))))
       (λ (r : (d : ℕ) × In (edge u v d) es × (entry o (edge-table es) n u v ≡ o .edge d)). inr r)
       (from-edges (replicate (n * n) (o .none)) es (omega (arith, length-replicate (n * n) (o .none))) within u v hu hv)
 

@@ -12,17 +12,13 @@ use Rattle.records.specs.Tables.{link-edge}
 use Rattle.waits.specs.Events.{In}
 use Rattle.planning.specs.declared.End.the-variants.{Entry, Exit}
 use Rattle.planning.specs.Backs.{Ground, back-link, chain, closing, groups-of, stand, part-backs, wants-backs, backs-among}
-use Rattle.meaning.proofs.Rising.{Has, has-++, has-left, has-right, Next}
+use Rattle.meaning.proofs.Rising.{Has, has-map, map-has, has-++, has-left, has-right, Next}
 
 pub in-map : (bs : List Link) (e : Edge) → In e (map link-edge bs) → (b : Link) × Has b bs × (e ≡ link-edge b)
-in-map [] e i = absurd i
-in-map (b ∷ bs) e (inl q) = (b, inl refl, q)
-in-map (b ∷ bs) e (inr i) = let r = in-map bs e i in (r .0, inr (r .1), r .2)
+in-map bs e i = map-has link-edge bs e i
 
 pub map-in : (bs : List Link) (b : Link) → Has b bs → In (link-edge b) (map link-edge bs)
-map-in [] b h = absurd h
-map-in (c ∷ bs) b (inl q) = inl (ap link-edge q)
-map-in (c ∷ bs) b (inr h) = inr (map-in bs b h)
+map-in bs b h = has-map link-edge bs b h
 
 -- b joins the groups of two heads of us, the second directly after the first
 abbrev pub Chained : Ground → List ℕ → Link → Type 0
@@ -53,11 +49,13 @@ Kind g lead p b = Chained g (groups-of g Entry p) b ⊎ (Chained g (groups-of g 
 pub part-kind : (g : Ground) (lead p : ℕ) (b : Link) → Has b (part-backs g lead p) → Kind g lead p b
 unfolding part-backs
 part-kind g lead p b h = elim (has-++ b (chain g None (groups-of g Entry p)) (chain g None (groups-of g Exit p) ++ (closing g lead p ∷ [])) h) [
-    inl c ↦ inl (chain-chained g (groups-of g Entry p) b c)
+  | inl c ↦ inl (chain-chained g (groups-of g Entry p) b c)
   | inr r ↦ elim (has-++ b (chain g None (groups-of g Exit p)) (closing g lead p ∷ []) r) [
-      inl c ↦ inr (inl (chain-chained g (groups-of g Exit p) b c))
+    | inl c ↦ inr (inl (chain-chained g (groups-of g Exit p) b c))
     | inr (inl e) ↦ inr (inr e)
-    | inr (inr no-more) ↦ absurd no-more ] ]
+    | inr (inr no-more) ↦ absurd no-more
+  ]
+]
 
 pub kind-part : (g : Ground) (lead p : ℕ) (b : Link) → Kind g lead p b → Has b (part-backs g lead p)
 unfolding part-backs
@@ -77,10 +75,12 @@ Back g lead ps b = (p : ℕ) × Has p ps × (wants-backs g p ≡ true) × Has b 
 pub backs-back : (g : Ground) (lead : ℕ) (ps : List ℕ) (b : Link) → Has b (backs-among g lead ps) → Back g lead ps b
 backs-back g lead [] b h = absurd h
 backs-back g lead (p ∷ ps) b h = elim (has-++ b (cond (wants-backs g p) (part-backs g lead p) []) (backs-among g lead ps) h) [
-    inl c ↦ elim (cases-bool (wants-backs g p)) [
-        inl t ↦ (p, inl refl, t, subst (λ l. Has b l) (cond-true (wants-backs g p) (part-backs g lead p) [] t) c)
-      | inr f ↦ absurd (subst (λ l. Has b l) (cond-false (wants-backs g p) (part-backs g lead p) [] f) c) ]
-  | inr r ↦ let s = backs-back g lead ps b r in (s .0, inr (s .1), s .2, s .3) ]
+  | inl c ↦ elim (cases-bool (wants-backs g p)) [
+    | inl t ↦ (p, inl refl, t, subst (λ l. Has b l) (cond-true (wants-backs g p) (part-backs g lead p) [] t) c)
+    | inr f ↦ absurd (subst (λ l. Has b l) (cond-false (wants-backs g p) (part-backs g lead p) [] f) c)
+  ]
+  | inr r ↦ let s = backs-back g lead ps b r in (s .0, inr (s .1), s .2, s .3)
+]
 
 pub back-backs : (g : Ground) (lead : ℕ) (ps : List ℕ) (b : Link) → Back g lead ps b → Has b (backs-among g lead ps)
 back-backs g lead [] b (p, h, t, k) = absurd h

@@ -54,8 +54,7 @@ module _ (d : Given) (ok : tables-check d ≡ Ok tt) (live : Live (edges-with d 
     (needed : (i : ℕ) → length (given-edges d) ≤ i → i < length (plan-edges d) → Needed (orders (d .actors)) (plan-edges d) i)
     (returns : (e : Edge) → In e (plan-edges d) → Reaches (edges-with d (all-links d)) (e .receiver) (e .sender))
     (backs-cross : (i : ℕ) → length (given-edges d) ≤ i → i < length (plan-edges d)
-      → processor-of (d .actors) (place (plan-edges d) i .sender) ≡ processor-of (d .actors) (place (plan-edges d) i .receiver) → ⊥) where
-
+    → processor-of (d .actors) (place (plan-edges d) i .sender) ≡ processor-of (d .actors) (place (plan-edges d) i .receiver) → ⊥) where
   given-long : length (given-edges d) ≡ length (take (d .given) (d .links))
   given-long = length-map (take (d .given) (d .links)) link-edge
 
@@ -91,20 +90,20 @@ module _ (d : Given) (ok : tables-check d ≡ Ok tt) (live : Live (edges-with d 
   spared i h =
       ⊎-elim
       (λ (g : i < length (given-edges d)).
-        ⊎-elim
-        (λ (t : local (d .actors) (place (plan-edges d) i) ≡ true).
-          let f = fine i h in
-          inr (inl (local-covered (d .actors) (edges-with d (all-links d)) (λ e j. in-left e (orders (d .actors)) (plan-edges d) j) live (place (plan-edges d) i) (in-edges i h) (f .0) (f .1) (eqb-true _ _ t))))
-        (λ (t : local (d .actors) (place (plan-edges d) i) ≡ false).
-          ⊎-elim
-          (λ (r : redundant (d .actors) (plan-edges d) i (place (plan-edges d) i) ≡ true). inr (inr (redundant-covers i h r)))
-          (λ (r : redundant (d .actors) (plan-edges d) i (place (plan-edges d) i) ≡ false).
-            let kept : mark-at d i ≡ 1 = mark-is i g ∙ cond-false _ _ _ t ∙ cond-false _ _ _ r in
-            inl (or-left (eqb (mark-at d i) 1) (eqb (mark-at d i) 3) (eq-eqb (mark-at d i) 1 kept)))
-          (cases-bool (redundant (d .actors) (plan-edges d) i (place (plan-edges d) i))))
-        (cases-bool (local (d .actors) (place (plan-edges d) i))))
+      ⊎-elim
+      (λ (t : local (d .actors) (place (plan-edges d) i) ≡ true).
+      let f = fine i h in
+      inr (inl (local-covered (d .actors) (edges-with d (all-links d)) (λ e j. in-left e (orders (d .actors)) (plan-edges d) j) live (place (plan-edges d) i) (in-edges i h) (f .0) (f .1) (eqb-true _ _ t))))
+      (λ (t : local (d .actors) (place (plan-edges d) i) ≡ false).
+      ⊎-elim
+      (λ (r : redundant (d .actors) (plan-edges d) i (place (plan-edges d) i) ≡ true). inr (inr (redundant-covers i h r)))
+      (λ (r : redundant (d .actors) (plan-edges d) i (place (plan-edges d) i) ≡ false).
+      let kept : mark-at d i ≡ 1 = mark-is i g ∙ cond-false _ _ _ t ∙ cond-false _ _ _ r in
+      inl (or-left (eqb (mark-at d i) 1) (eqb (mark-at d i) 3) (eq-eqb (mark-at d i) 1 kept)))
+      (cases-bool (redundant (d .actors) (plan-edges d) i (place (plan-edges d) i))))
+      (cases-bool (local (d .actors) (place (plan-edges d) i))))
       (λ (g : length (given-edges d) ≤ i).
-        inl (or-right (eqb (mark-at d i) 1) (eqb (mark-at d i) 3) (eq-eqb (mark-at d i) 3 (back-mark d ok i (omega (arith, given-long)) (omega (arith, edges-long))))))
+      inl (or-right (eqb (mark-at d i) 1) (eqb (mark-at d i) 3) (eq-eqb (mark-at d i) 3 (back-mark d ok i (omega (arith, given-long)) (omega (arith, edges-long))))))
       (cases-lt i (length (given-edges d)))
 
   few-backs : length (back-links d) ≤ 15
@@ -129,11 +128,11 @@ module _ (d : Given) (ok : tables-check d ≡ Ok tt) (live : Live (edges-with d 
   no-other i h w =
       ⊎-elim
       (λ (g : i < length (given-edges d)) (c : Covers (orders (d .actors) ++ without i (place (plan-edges d) i) 0 (plan-edges d)) (place (plan-edges d) i)).
-        let r = covers-redundant i h c in
-        ⊎-elim
-        (λ (t : local (d .actors) (place (plan-edges d) i) ≡ true). not-waited i (mark-is i g ∙ cond-true _ _ _ t) (inr refl) w)
-        (λ (t : local (d .actors) (place (plan-edges d) i) ≡ false). not-waited i (mark-is i g ∙ cond-false _ _ _ t ∙ cond-true _ _ _ r) (inl refl) w)
-        (cases-bool (local (d .actors) (place (plan-edges d) i))))
+      let r = covers-redundant i h c in
+      ⊎-elim
+      (λ (t : local (d .actors) (place (plan-edges d) i) ≡ true). not-waited i (mark-is i g ∙ cond-true _ _ _ t) (inr refl) w)
+      (λ (t : local (d .actors) (place (plan-edges d) i) ≡ false). not-waited i (mark-is i g ∙ cond-false _ _ _ t ∙ cond-true _ _ _ r) (inl refl) w)
+      (cases-bool (local (d .actors) (place (plan-edges d) i))))
       (λ (g : length (given-edges d) ≤ i). needed i g h)
       (cases-lt i (length (given-edges d)))
     where
@@ -151,13 +150,14 @@ module _ (d : Given) (ok : tables-check d ≡ Ok tt) (live : Live (edges-with d 
   no-fewer C all =
       fewest (orders (d .actors)) (plan-edges d) (waited d) C no-other
       (λ i h _. enforced-covered (length (d .actors)) (orders (d .actors)) (plan-edges d) (all-small d ok .within) live turn C i h
-        (enforces (d .actors) (chosen C (plan-edges d)) (place (plan-edges d) i) (all i h)))
+      (enforces (d .actors) (chosen C (plan-edges d)) (place (plan-edges d) i) (all i h)))
 
   -- whoever follows the kept and back links obeys every edge
   obeys-all : (xs : List Event) → Follows (d .actors) (waited-edges d) xs → Obeys-all xs (edges-with d (all-links d))
   obeys-all xs f e i = elim (in-++ e (orders (d .actors)) (plan-edges d) i) [
-      inl j ↦ obeys-edges (d .actors) (waited-edges d) xs f e (in-left e (orders (d .actors)) (waited-edges d) j)
-    | inr j ↦ let r = at-place (plan-edges d) e j in subst (λ x. Obeys xs x) (r .2) (enough (r .0) (r .1) xs f) ]
+    | inl j ↦ obeys-edges (d .actors) (waited-edges d) xs f e (in-left e (orders (d .actors)) (waited-edges d) j)
+    | inr j ↦ let r = at-place (plan-edges d) e j in subst (λ x. Obeys xs x) (r .2) (enough (r .0) (r .1) xs f)
+  ]
 
   -- and whoever obeys every edge follows them
   follows-waited : (xs : List Event) → Lawful xs → Obeys-all xs (edges-with d (all-links d)) → Follows (d .actors) (waited-edges d) xs
@@ -209,12 +209,12 @@ module _ (d : Given) (ok : tables-check d ≡ Ok tt) (live : Live (edges-with d 
     size-is =
         let same = place-is d i (omega (arith, x .below, edges-long)) in
         let whole : size-at d i ≡ cells-of i =
-          ⊎-elim
-          (λ (g : i < length (given-edges d)). given-cells i (x .below) g (ne-eqb _ _ (x .across)))
-          (λ (g : length (given-edges d) ≤ i). back-cells i (x .below) g)
-          (cases-lt i (length (given-edges d))) in
+        ⊎-elim
+        (λ (g : i < length (given-edges d)). given-cells i (x .below) g (ne-eqb _ _ (x .across)))
+        (λ (g : length (given-edges d) ≤ i). back-cells i (x .below) g)
+        (cases-lt i (length (given-edges d))) in
         let there : entry delay-ops (plan-delays d) (length (d .actors)) (link i .receiver) (link i .sender) .value ≡ back-of i =
-          ap (λ (e : Edge). entry delay-ops (plan-delays d) (length (d .actors)) (e .receiver) (e .sender) .value) (sym same) in
+        ap (λ (e : Edge). entry delay-ops (plan-delays d) (length (d .actors)) (e .receiver) (e .sender) .value) (sym same) in
         let delay : link i .delay ≡ place (plan-edges d) i .delay = ap (λ (e : Edge). e .delay) (sym same) in
         omega (arith, whole, there, delay, back-number i (x .below), fine i (x .below) .2)
 
@@ -238,7 +238,7 @@ module _ (d : Given) (ok : tables-check d ≡ Ok tt) (live : Live (edges-with d 
     can-be-full =
         let f = fine i (x .below) in
         let r = gets-so-far (length (d .actors)) (edges-with d (all-links d)) (all-small d ok) live (place (plan-edges d) i .sender) (place (plan-edges d) i .receiver) (f .0) (f .1)
-          (path-over-more (λ e j. in-left e (orders (d .actors)) (plan-edges d) j) (turn (place (plan-edges d) i .receiver) (f .1))) in
+        (path-over-more (λ e j. in-left e (orders (d .actors)) (plan-edges d) j) (turn (place (plan-edges d) i .receiver) (f .1))) in
         (r .0, follows-waited (r .0) (r .1) (r .2), omega (arith, size-is, r .3, r .4))
 
   module _ (i : ℕ) (x : Cross d i) where

@@ -3,13 +3,37 @@ use mathlib.Core.Path.{_≡_, refl, sym, subst, _∙_}
 use mathlib.Core.List.{List, [], _∷_, _++_}
 use mathlib.Core.Logic.{inl, inr}
 use Prim.Native.Nat.{ℕ, _<_}
+use native.Mathlib.Omega.{arith}
 use lib.ListN.{length}
 use Rattle.std.proofs.shelf.Lists.{same-from-push}
 use Rattle.records.specs.declared.tables.Actor.{Actor}
 use Rattle.records.specs.declared.tables.Edge.{Edge}
-use Rattle.meaning.specs.Components.{Group, Lowest, Among, chained, Part-links, In-turn, Back-links}
-use Rattle.meaning.proofs.Picked.{rising-same}
-use Rattle.meaning.proofs.StandIns.{stands-one}
+use Rattle.meaning.specs.Components.{Group, Lowest, Stands, Among, Rises, Rising, chained, Part-links, In-turn, Back-links}
+
+-- rising lists of the same numbers are the same
+rising-same : (n : ℕ) (P : ℕ → Type 0) (us vs : List ℕ) → Rising n P us → Rising n P vs → us ≡ vs
+rising-same n P us vs a b = same us vs (a .rises) (b .rises) (λ x i. let (h, p) = a .each x i in b .all x h p) (λ x i. let (h, p) = b .each x i in a .all x h p)
+  where
+    same : (us vs : List ℕ) → Rises us → Rises vs → ((x : ℕ) → Among x us → Among x vs) → ((x : ℕ) → Among x vs → Among x us) → us ≡ vs
+    same [] [] ru rv there back = refl
+    same (u ∷ us) [] ru rv there back = absurd (there u (inl refl))
+    same [] (v ∷ vs) ru rv there back = absurd (back v (inl refl))
+    same (u ∷ us) (v ∷ vs) ru rv there back =
+        let e : u ≡ v = elim (there u (inl refl)) [
+          | inl e ↦ e
+          | inr i ↦ elim (back v (inl refl)) [ inl e ↦ sym e | inr j ↦ absurd (omega (arith, ru .0 v j, rv .0 u i)) ]
+        ] in
+        let rest : us ≡ vs = same us vs (ru .1) (rv .1)
+        (λ x i. elim (there x (inr i)) [ inl q ↦ absurd (omega (arith, ru .0 x i)) | inr j ↦ j ])
+        (λ x i. elim (back x (inr i)) [ inl q ↦ absurd (omega (arith, rv .0 x i)) | inr j ↦ j ]) in
+        cc
+
+-- one actor stands for a group
+stands-one : (actors : List Actor) (es : List Edge) (u v w : ℕ) → Stands actors es u v → Stands actors es u w → v ≡ w
+stands-one actors es u v w a b =
+    let there = a .least w (b .below) (b .inside) in
+    let back = b .least v (a .below) (a .inside) in
+    omega (arith, a .lowest w (b .below) (b .inside) (omega arith), b .lowest v (a .below) (a .inside) (omega arith))
 
 chained-same : (f h : ℕ → ℕ) (us : List ℕ) → ((u : ℕ) → Among u us → f u ≡ h u) → chained f us ≡ chained h us
 chained-same f h [] same = refl

@@ -1,13 +1,13 @@
 -- The numbers that pass a test, rising.
-use mathlib.Core.Path.{_≡_, refl, ap, sym, subst}
+use mathlib.Core.Path.{_≡_, sym, subst}
 use mathlib.Core.Bool.{Bool, true, cond}
 use mathlib.Core.List.{List, [], _∷_}
-use mathlib.Core.Logic.{_⊎_, inl, inr}
+use mathlib.Core.Logic.{inl, inr}
 use Prim.Native.Nat.{ℕ, zero, suc, _+_, _<_, _≤_}
 use native.Mathlib.Omega.{arith}
 use Rattle.std.specs.Iters.{counting}
 use Rattle.std.specs.Orderings.{Decides}
-use Rattle.std.proofs.shelf.Tests.{cases-bool, cases-eq, cond-both, both-ways}
+use Rattle.std.proofs.shelf.Tests.{cases-eq, cond-both, both-ways}
 use Rattle.meaning.specs.Components.{Among, Rises, Rising}
 
 -- those of us that pass the test
@@ -20,7 +20,7 @@ module _ (test : ℕ → Bool) where
   picked-each a zero u i = absurd i
   picked-each a (suc k) u i =
       let later : Among u (picked test (counting (a + 1) k)) → (a ≤ u) × (u < a + suc k) × (test u ≡ true) = λ j.
-        let (low, high, t) = picked-each (a + 1) k u j in (omega arith, omega arith, t) in
+      let (low, high, t) = picked-each (a + 1) k u j in (omega arith, omega arith, t) in
       cond-both (test a) (a ∷ picked test (counting (a + 1) k)) (picked test (counting (a + 1) k)) (λ us. Among u us → (a ≤ u) × (u < a + suc k) × (test u ≡ true))
       (λ t j. elim j [ inl e ↦ (omega arith, omega arith, subst (λ v. test v ≡ true) (sym e) t) | inr m ↦ later m ])
       (λ _ j. later j)
@@ -49,31 +49,3 @@ picked-rising n test P each = record {
   each = λ u i. let (low, high, t) = picked-each test 0 n u i in let h : u < n = omega arith in (h, each u h .0 t);
   all = λ u h p. picked-all test 0 n u (omega arith) (omega arith) (each u h .1 p);
 }
-
--- a test that decides P finds the lowest number with P, if there is one
-pub lowest-with : (n : ℕ) (test : ℕ → Bool) (P : ℕ → Type 0) → ((u : ℕ) → u < n → Decides (test u) (P u)) → (x : ℕ) → x < n → P x
-    → (w : ℕ) × (w < n) × P w × ((v : ℕ) → v < n → P v → w ≤ v)
-lowest-with n test P each x h p = head (picked test (counting 0 n)) (picked-rising n test P each)
-  where
-    head : (us : List ℕ) → Rising n P us → (w : ℕ) × (w < n) × P w × ((v : ℕ) → v < n → P v → w ≤ v)
-    head [] r = absurd (r .all x h p)
-    head (w ∷ us) r =
-        let (l, q) = r .each w (inl refl) in
-        (w, l, q, λ v k z. elim (r .all v k z) [ inl e ↦ omega arith | inr i ↦ omega (arith, r .rises .0 v i) ])
-
--- rising lists of the same numbers are the same
-pub rising-same : (n : ℕ) (P : ℕ → Type 0) (us vs : List ℕ) → Rising n P us → Rising n P vs → us ≡ vs
-rising-same n P us vs a b = same us vs (a .rises) (b .rises) (λ x i. let (h, p) = a .each x i in b .all x h p) (λ x i. let (h, p) = b .each x i in a .all x h p)
-  where
-    same : (us vs : List ℕ) → Rises us → Rises vs → ((x : ℕ) → Among x us → Among x vs) → ((x : ℕ) → Among x vs → Among x us) → us ≡ vs
-    same [] [] ru rv there back = refl
-    same (u ∷ us) [] ru rv there back = absurd (there u (inl refl))
-    same [] (v ∷ vs) ru rv there back = absurd (back v (inl refl))
-    same (u ∷ us) (v ∷ vs) ru rv there back =
-        let e : u ≡ v = elim (there u (inl refl)) [
-            inl e ↦ e
-          | inr i ↦ elim (back v (inl refl)) [ inl e ↦ sym e | inr j ↦ absurd (omega (arith, ru .0 v j, rv .0 u i)) ] ] in
-        let rest : us ≡ vs = same us vs (ru .1) (rv .1)
-          (λ x i. elim (there x (inr i)) [ inl q ↦ absurd (omega (arith, ru .0 x i)) | inr j ↦ j ])
-          (λ x i. elim (back x (inr i)) [ inl q ↦ absurd (omega (arith, rv .0 x i)) | inr j ↦ j ]) in
-        cc

@@ -29,25 +29,21 @@ use Rattle.meaning.proofs.Distinct.{Distinct}
 use Rattle.meaning.proofs.Drawn.{passed, base-small}
 use Rattle.meaning.proofs.Few.{few-backs, backs-uncut}
 use Rattle.meaning.proofs.Fewest.{Needed}
+use Rattle.meaning.proofs.Grounds.{known-tabled}
 use Rattle.meaning.proofs.Groups.{part-decides}
-use Rattle.meaning.proofs.Joins.{joined-back, loose-joins}
+use Rattle.meaning.proofs.Joins.{joined-back}
 use Rattle.meaning.proofs.Known.{Known, given-known}
 use Rattle.meaning.proofs.LinkKinds.{in-map}
 use Rattle.meaning.proofs.OneList.{back-links-one}
 use Rattle.meaning.proofs.Planned.{all-small}
-use Rattle.meaning.proofs.Rising.{Has}
+use Rattle.meaning.proofs.Rising.{Has, has-at}
 use Rattle.meaning.proofs.Told.{told-joined, backs-told, backs-distinct}
 use Rattle.meaning.proofs.Twins.{twin-is-lower}
-
-has-at : {X : Type 0} (xs : List X) (x : X) (i : ℕ) → i < length xs → Has (getD xs i x) xs
-has-at [] x i h = absurd (omega arith)
-has-at (y ∷ xs) x zero h = inl refl
-has-at (y ∷ xs) x (suc i) h = inr (has-at xs x i (omega arith))
 
 distinct-places : {X Y : Type 0} (f : X → Y) (xs : List X) (x : X) → Distinct f xs → (i j : ℕ) → i < j → j < length xs → f (getD xs i x) ≡ f (getD xs j x) → ⊥
 distinct-places f [] x apart i j l h e = absurd (omega arith)
 distinct-places f (y ∷ xs) x apart i zero l h e = absurd (omega arith)
-distinct-places f (y ∷ xs) x apart zero (suc j) l h e = apart .0 (getD xs j x) (has-at xs x j (omega arith)) e
+distinct-places f (y ∷ xs) x apart zero (suc j) l h e = apart .0 (getD xs j x) (has-at x xs j (omega arith)) e
 distinct-places f (y ∷ xs) x apart (suc i) (suc j) l h e = distinct-places f xs x (apart .1) i j (omega arith) (omega arith) e
 
 -- the ends of joined actors are below n
@@ -116,7 +112,7 @@ module _ (d : Given) (ok : tables-check d ≡ Ok tt) where
         (in-more (orders (d .actors)) (without i (place (plan-edges d) i) 0 (plan-edges d)) (plan-edges d) (without-part i (place (plan-edges d) i) (plan-edges d)) e j)
 
     here : Has (back-at i) (all-backs (ground d) (d .lead))
-    here = has-at (all-backs (ground d) (d .lead)) no-link (i - length (given-edges d)) (omega (arith, backs-long))
+    here = has-at no-link (all-backs (ground d) (d .lead)) (i - length (given-edges d)) (omega (arith, backs-long))
 
     not-base : In (link-edge (back-at i)) (base-edges d) → ⊥
     not-base j = backs-new known (d .lead) (back-at i) here j
@@ -127,8 +123,8 @@ module _ (d : Given) (ok : tables-check d ≡ Ok tt) where
         ⊎-elim
         (λ (low : j < length (given-edges d)). not-base (subst (λ f. In f (base-edges d)) e (given-place j low)))
         (λ (high : length (given-edges d) ≤ j).
-          distinct-places link-edge (all-backs (ground d) (d .lead)) no-link (backs-distinct known (d .lead))
-          (j - length (given-edges d)) (i - length (given-edges d)) (omega arith) (omega (arith, backs-long)) (sym (back-place j high (omega arith)) ∙ e))
+        distinct-places link-edge (all-backs (ground d) (d .lead)) no-link (backs-distinct known (d .lead))
+        (j - length (given-edges d)) (i - length (given-edges d)) (omega arith) (omega (arith, backs-long)) (sym (back-place j high (omega arith)) ∙ e))
         (cases-lt j (length (given-edges d)))
 
     not-other : In (link-edge (back-at i)) others → ⊥
@@ -149,7 +145,7 @@ module _ (d : Given) (ok : tables-check d ≡ Ok tt) where
         let is = back-place i ge h in
         let ends = backs-below h in
         not-base (backs-in known (d .lead) (back-at i) here (base-edges d) (λ e j. in-left e (base-edges d) (back-edges (ground d) (d .lead)) j)
-          (1, subst (λ e. Path (base-edges d) (e .sender) (e .receiver) 1) is (known .turns (place (plan-edges d) i .sender) (place (plan-edges d) i .receiver) (ends .0) (ends .1) same)))
+        (1, subst (λ e. Path (base-edges d) (e .sender) (e .receiver) 1) is (known .turns (place (plan-edges d) i .sender) (place (plan-edges d) i .receiver) (ends .0) (ends .1) same)))
       where
         backs-below : i < length (plan-edges d) → (place (plan-edges d) i .sender < length (d .actors)) × (place (plan-edges d) i .receiver < length (d .actors))
         backs-below l = all-small d ok .within (place (plan-edges d) i) (in-right (place (plan-edges d) i) (orders (d .actors)) (plan-edges d) (in-place (plan-edges d) i l))
@@ -157,9 +153,10 @@ module _ (d : Given) (ok : tables-check d ≡ Ok tt) where
   -- the ends of a back link are in one part
   back-joined : (b : Link) → Has b (all-backs (ground d) (d .lead)) → Joined (base-edges d) (b .receiver) (b .sender)
   back-joined b h =
-      let (p, hp, several, told) = backs-told known (d .lead) b h in
-      let (from, to) = told-joined known (d .lead) p b told in
-      on (joined-back (loose-joins to)) (loose-joins from)
+      let tabled = known-tabled known in
+      let (p, hp, several, told) = backs-told tabled (d .lead) b h in
+      let (from, to) = told-joined tabled (d .lead) p b told in
+      on (joined-back to) from
 
   -- from the receiver of every link a path leads back to its sender
   pub returns : (e : Edge) → In e (plan-edges d) → Reaches (edges-with d (all-links d)) (e .receiver) (e .sender)
@@ -173,8 +170,8 @@ module _ (d : Given) (ok : tables-check d ≡ Ok tt) where
   pub backs-mean : Backs-mean d
   backs-mean =
       let links : Back-links (d .actors) (base-edges d) (d .lead) (map link-edge (back-links d)) =
-        subst (λ bs. Back-links (d .actors) (base-edges d) (d .lead) (map link-edge bs)) (sym uncut)
-        (subject-links (d .actors) (base-edges d) (base-small d ok) (λ x h. (1, known .turns x x h h refl)) (d .lead)) in
+      subst (λ bs. Back-links (d .actors) (base-edges d) (d .lead) (map link-edge bs)) (sym uncut)
+      (subject-links (d .actors) (base-edges d) (base-small d ok) (λ x h. (1, known .turns x x h h refl)) (d .lead)) in
       record {
         links = links;
         only = λ ls other. back-links-one (d .actors) (base-edges d) (d .lead) ls (map link-edge (back-links d)) other links;

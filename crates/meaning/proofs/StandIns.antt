@@ -1,16 +1,14 @@
 -- The actor that the planner lets stand for a group has its least estimate, and is the lowest that has it.
-use mathlib.Core.Path.{_≡_, refl, sym, subst}
-use mathlib.Core.Bool.{Bool, true, false, cond, _&&_}
+use mathlib.Core.Path.{_≡_, sym, subst}
 use mathlib.Core.List.{List}
 use mathlib.Core.Logic.{inl, inr}
 use Prim.Native.Nat.{ℕ, zero, suc, _<_, _≤_}
 use native.Mathlib.Omega.{arith}
-use lib.Dec.{ltb}
 use lib.ListN.{length}
 use Rattle.std.proofs.shelf.Tests.{cases-eq, cond-both, and-parts, and-cases, ltb-true, ltb-false, both-ways}
 use Rattle.records.specs.declared.tables.Actor.{Actor}
 use Rattle.records.specs.declared.tables.Edge.{Edge}
-use Rattle.planning.specs.Groups.{same-group, stands-better, stand-below, stand-in}
+use Rattle.planning.specs.Groups.{stands-better, stand-below, stand-in}
 use Rattle.planning.specs.Tables.{least-delays}
 use Rattle.meaning.specs.Components.{Reaches, Group, Lowest, Stands, estimate-of}
 use Rattle.meaning.proofs.Groups.{group-decides}
@@ -42,8 +40,9 @@ module _ (actors : List Actor) (es : List Edge) (small : Small (length actors) e
     below = s .below;
     inside = s .inside;
     least = λ x b h i. elim (cases-eq x k) [
-        inl e ↦ subst (λ y. Group es u y → est w ≤ est y) (sym e) worse i
-      | inr ne ↦ s .least x (omega arith) h i ];
+      | inl e ↦ subst (λ y. Group es u y → est w ≤ est y) (sym e) worse i
+      | inr ne ↦ s .least x (omega arith) h i
+    ];
     lowest = λ x b h i q. elim (cases-eq x k) [ inl e ↦ s .ahead x (omega arith) h i | inr ne ↦ s .lowest x (omega arith) h i q ];
     ahead = λ x b h i. s .ahead x (omega arith) h i;
   }
@@ -70,10 +69,3 @@ module _ (actors : List Actor) (es : List Edge) (small : Small (length actors) e
     stand-in-stands =
         let s = seen (length actors) (omega arith) in
         record { below = s .below; inside = s .inside; least = λ x h i. s .least x h h i; lowest = λ x h i q. s .lowest x h h i q }
-
--- only one actor stands for a group
-pub stands-one : (actors : List Actor) (es : List Edge) (u v w : ℕ) → Stands actors es u v → Stands actors es u w → v ≡ w
-stands-one actors es u v w a b =
-    let there = a .least w (b .below) (b .inside) in
-    let back = b .least v (a .below) (a .inside) in
-    omega (arith, a .lowest w (b .below) (b .inside) (omega arith), b .lowest v (a .below) (a .inside) (omega arith))

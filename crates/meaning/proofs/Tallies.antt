@@ -1,64 +1,67 @@
 -- Tests on the numbers below a bound: all pass, one fails, the lowest that passes, and how many pass.
-use mathlib.Core.Path.{_≡_, refl, ap, sym, _∙_}
-use mathlib.Core.Bool.{Bool, true, false, not, cond, _&&_}
-use mathlib.Core.Logic.{⊎-elim}
+use mathlib.Core.Path.{_≡_, refl, ap, sym, subst, _∙_}
+use mathlib.Core.Bool.{Bool, true, false, not, cond}
+use mathlib.Core.Logic.{inl, inr, ⊎-elim}
 use Prim.Native.Nat.{ℕ, zero, suc, _+_, _≤_, _<_}
 use native.Mathlib.Omega.{arith}
 use native.Mathlib.Nat.{add-zero, zero-add}
 use native.Mathlib.Numerals.{add-one}
-use Rattle.std.proofs.shelf.Tests.{cases-bool, cases-lt, cases-eq, and-parts, and-from, both-ways, not-true, not-false, cond-both}
+use Rattle.std.specs.Orderings.{Decides}
+use Rattle.std.proofs.shelf.Tests.{cases-bool, cases-lt, cases-eq, and-parts, and-from, and-cases, both-ways, not-true, not-false, not-from-false, cond-both, false≢true}
 use Rattle.planning.specs.Groups.{all-below}
 use Rattle.waits.specs.Counting.{count}
 use Rattle.waits.proofs.Counting.{without, without-keeps, count-without, counting}
 
-pub all-passes : (p : ℕ → Bool) (k : ℕ) → all-below p k ≡ true → (i : ℕ) → i < k → p i ≡ true
-all-passes p zero t i h = absurd (omega arith)
-all-passes p (suc k) t i h =
-    let two = and-parts (p k) (all-below p k) t in
-    ⊎-elim (λ (l : i < k). all-passes p k (two .1) i l) (λ (l : k ≤ i). let e : i ≡ k = omega arith in ap p e ∙ two .0) (cases-lt i k)
+-- tests of every number below k
+pub below-decides : (test : ℕ → Bool) (P : ℕ → Type 0) (k : ℕ) → ((w : ℕ) → w < k → Decides (test w) (P w)) → Decides (all-below test k) ((w : ℕ) → w < k → P w)
+below-decides test P zero each = (λ _ w h. absurd (omega arith), λ _. refl)
+below-decides test P (suc k) each =
+    let rest = below-decides test P k (λ w h. each w (omega arith)) in (
+      λ t w h. elim (cases-eq w k) [
+        | inl e ↦ subst P (sym e) (each k (omega arith) .0 (and-parts _ _ t .0))
+        | inr ne ↦ rest .0 (and-parts _ _ t .1) w (omega arith)
+      ],
+      λ all. and-from _ _ (each k (omega arith) .1 (all k (omega arith))) (rest .1 (λ w h. all w (omega arith))),
+    )
 
-pub passes-all : (p : ℕ → Bool) (k : ℕ) → ((i : ℕ) → i < k → p i ≡ true) → all-below p k ≡ true
-passes-all p zero h = refl
-passes-all p (suc k) h = and-from (p k) (all-below p k) (h k (omega arith)) (passes-all p k (λ i l. h i (omega arith)))
-
-pub one-fails : (p : ℕ → Bool) (k : ℕ) → all-below p k ≡ false → (i : ℕ) × (i < k) × (p i ≡ false)
-one-fails p zero t = absurd (both-ways true t refl)
-one-fails p (suc k) t =
-    ⊎-elim
-    (λ (y : p k ≡ true). let r = one-fails p k (sym (ap (λ b. b && all-below p k) y) ∙ t) in (r .0, omega (arith, r .1), r .2))
-    (λ (f : p k ≡ false). (k, omega arith, f))
-    (cases-bool (p k))
+pub one-fails : (test : ℕ → Bool) (k : ℕ) → all-below test k ≡ false → (w : ℕ) × (w < k) × (test w ≡ false)
+one-fails test zero f = absurd (false≢true (sym f))
+one-fails test (suc k) f = elim (and-cases _ _ f) [
+  | inl here ↦ (k, omega arith, here)
+  | inr before ↦ let (w, l, t) = one-fails test k before in (w, omega arith, t)
+]
 
 -- the lowest number that passes, or k where none below k does
 abbrev pub lowest : (ℕ → Bool) → ℕ → ℕ
 lowest p zero = 0
 lowest p (suc k) = cond (all-below (λ i. not (p i)) k) k (lowest p k)
 
-pub record Lowest (p : ℕ → Bool) (k m : ℕ) : Type 0 where
+pub record Found (p : ℕ → Bool) (k m : ℕ) : Type 0 where
   pub below : m < k
   pub passes : p m ≡ true
   pub low : (i : ℕ) → p i ≡ true → m ≤ i
 
-pub lowest-found : (p : ℕ → Bool) (k i : ℕ) → i < k → p i ≡ true → Lowest p k (lowest p k)
+pub lowest-found : (p : ℕ → Bool) (k i : ℕ) → i < k → p i ≡ true → Found p k (lowest p k)
 lowest-found p zero i h t = absurd (omega arith)
-lowest-found p (suc k) i h t = cond-both (all-below (λ j. not (p j)) k) k (lowest p k) (λ m. Lowest p (suc k) m)
+lowest-found p (suc k) i h t = cond-both (all-below (λ j. not (p j)) k) k (lowest p k) (λ m. Found p (suc k) m)
     (λ (none : all-below (λ j. not (p j)) k ≡ true).
-      let fails : (j : ℕ) → j < k → p j ≡ false = λ j l. not-true (p j) (all-passes (λ j. not (p j)) k none j l) in
-      let high : (j : ℕ) → p j ≡ true → k ≤ j = λ j y. ⊎-elim (λ (l : j < k). absurd (both-ways (p j) (fails j l) y)) (λ (l : k ≤ j). l) (cases-lt j k) in
-      let e : i ≡ k = omega (arith, high i t) in
-      record { below = omega arith; passes = ap p (sym e) ∙ t; low = high })
+    let fails : (j : ℕ) → j < k → p j ≡ false = λ j l. below-decides (λ j. not (p j)) (λ j. p j ≡ false) k (λ j _. (not-true (p j), not-from-false (p j))) .0 none j l in
+    let high : (j : ℕ) → p j ≡ true → k ≤ j = λ j y. ⊎-elim (λ (l : j < k). absurd (both-ways (p j) (fails j l) y)) (λ (l : k ≤ j). l) (cases-lt j k) in
+    let e : i ≡ k = omega (arith, high i t) in
+    record { below = omega arith; passes = ap p (sym e) ∙ t; low = high })
     (λ (some : all-below (λ j. not (p j)) k ≡ false).
-      let w = one-fails (λ j. not (p j)) k some in
-      let r = lowest-found p k (w .0) (w .1) (not-false (p (w .0)) (w .2)) in
-      record { below = omega (arith, r .below); passes = r .passes; low = r .low })
+    let w = one-fails (λ j. not (p j)) k some in
+    let r = lowest-found p k (w .0) (w .1) (not-false (p (w .0)) (w .2)) in
+    record { below = omega (arith, r .below); passes = r .passes; low = r .low })
 
 -- as many pass p as pass q, or fewer, where all that pass p pass q
 pub count-le : (p q : ℕ → Bool) (n : ℕ) → ((i : ℕ) → i < n → p i ≡ true → q i ≡ true) → count p n ≤ count q n
 count-le p q n h = counting p q (λ i. i) n n (λ i l t. (i, l, h i l t, refl))
 
-pub count-less : (p q : ℕ → Bool) (n : ℕ) → ((i : ℕ) → i < n → p i ≡ true → q i ≡ true) → (a : ℕ) → a < n → p a ≡ false → q a ≡ true → count p n < count q n
+-- fewer where one passes q alone
+pub count-less : (p q : ℕ → Bool) (n : ℕ) → ((i : ℕ) → i < n → p i ≡ true → q i ≡ true) → (a : ℕ) → a < n → (p a ≡ true → ⊥) → q a ≡ true → count p n < count q n
 count-less p q n h a l f t =
-    omega (arith, count-without q a n l t, count-le p (without q a) n (λ i l y. without-keeps q a i (h i l y) (λ e. both-ways (p a) f (ap p (sym e) ∙ y))))
+    omega (arith, count-without q a n l t, count-le p (without q a) n (λ i l y. without-keeps q a i (h i l y) (λ e. f (ap p (sym e) ∙ y))))
 
 pub count-some : (p : ℕ → Bool) (n i : ℕ) → i < n → p i ≡ true → 1 ≤ count p n
 count-some p n i l t = omega (arith, count-without p i n l t)
@@ -75,9 +78,9 @@ count-both p q o (suc k) a b c =
     let i = count-both p q o k (λ i l. a i (omega arith)) (λ i l. b i (omega arith)) (λ i l. c i (omega arith)) in
     ⊎-elim
     (λ (t : p k ≡ true). let s = a k (omega arith) t in
-      ⊎-elim (λ (y : q k ≡ true). absurd (c k (omega arith) t y)) (λ (f : q k ≡ false). rw (t, f, s) (omega arith)) (cases-bool (q k)))
+    ⊎-elim (λ (y : q k ≡ true). absurd (c k (omega arith) t y)) (λ (f : q k ≡ false). rw (t, f, s) (omega arith)) (cases-bool (q k)))
     (λ (t : p k ≡ false).
-      ⊎-elim (λ (y : q k ≡ true). let s = b k (omega arith) y in rw (t, y, s) (omega arith)) (λ (f : q k ≡ false). rw (t, f) (omega arith)) (cases-bool (q k)))
+    ⊎-elim (λ (y : q k ≡ true). let s = b k (omega arith) y in rw (t, y, s) (omega arith)) (λ (f : q k ≡ false). rw (t, f) (omega arith)) (cases-bool (q k)))
     (cases-bool (p k))
 
 -- the numbers from a on, k of them, that pass
@@ -105,10 +108,6 @@ count-but-one p q r (suc k) h =
     ⊎-elim
     (λ (e : k ≡ r). let i = count-le p q k (λ i l t. h i (omega arith) t (λ z. omega arith)) in omega (arith, one (p k)))
     (λ (ne : k ≡ r → ⊥).
-      let i = count-but-one p q r k (λ i l t. h i (omega arith) t) in
-      ⊎-elim (λ (t : p k ≡ true). rw (t, h k (omega arith) t ne) (omega arith)) (λ (t : p k ≡ false). rw t (omega arith)) (cases-bool (p k)))
+    let i = count-but-one p q r k (λ i l t. h i (omega arith) t) in
+    ⊎-elim (λ (t : p k ≡ true). rw (t, h k (omega arith) t ne) (omega arith)) (λ (t : p k ≡ false). rw t (omega arith)) (cases-bool (p k)))
     (cases-eq k r)
-
--- at most as many pass p as pass q where each that passes p is the image of one that passes q
-pub count-images : (p q : ℕ → Bool) (h : ℕ → ℕ) (k m : ℕ) → ((e : ℕ) → e < k → p e ≡ true → (j : ℕ) × (j < m) × (q j ≡ true) × (h j ≡ e)) → count p k ≤ count q m
-count-images p q h k m s = counting p q h k m s

@@ -1,23 +1,22 @@
 -- Paths along a processor's order: to a later actor without delay, and to every actor with delay 1.
 use mathlib.Core.Path.{_≡_, refl, ap, sym, subst, _∙_}
-use mathlib.Core.Bool.{Bool, true, false, cond}
-use mathlib.Core.List.{List, [], _∷_, map}
+use mathlib.Core.Bool.{true, false}
+use mathlib.Core.List.{List, []}
 use mathlib.Core.Logic.{_⊎_, inl, inr, ⊎-elim}
-use Prim.Native.Nat.{ℕ, zero, suc, _+_, _<_, _≤_}
+use Prim.Native.Nat.{ℕ, zero, suc, _<_, _≤_}
 use native.Mathlib.Omega.{arith}
 use lib.Dec.{eqb}
 use lib.ListN.{length}
 use Rattle.std.specs.Iters.{counting}
-use Rattle.std.specs.Slices.{found}
-use Rattle.std.specs.declared.option.Option.{Option}
 use Rattle.std.specs.declared.option.Option.the-variants.{Some, None}
-use Rattle.std.proofs.shelf.Tests.{cases-lt, cases-eq, cases-bool, cond-true, cond-false, eqb-true, eqb-false, eq-eqb, cases-order}
+use Rattle.std.proofs.shelf.Tests.{cases-lt, cases-bool, cond-true, cond-false, eqb-true, eqb-false}
 use Rattle.records.specs.declared.tables.Actor.{Actor}
 use Rattle.records.specs.declared.tables.Edge.{Edge}
 use Rattle.records.specs.Tables.{edge, processor-of}
-use Rattle.waits.specs.Events.{In, Path, last, step}
+use Rattle.waits.specs.Events.{In, Path, last}
 use Rattle.waits.proofs.Paths.{path-joined}
 use Rattle.planning.specs.Edges.{last-on, edge-into, order-edge, orders}
+use Rattle.meaning.proofs.Rising.{has-map, has-counting}
 
 -- the last actor below k on a processor: it is on it, and none between it and k is
 pub record Last (actors : List Actor) (p k u : ℕ) : Type 0 where
@@ -31,24 +30,18 @@ last-found actors p zero = inr (refl, λ w h e. omega arith)
 last-found actors p (suc k) =
     ⊎-elim
     (λ (t : eqb (processor-of actors k) p ≡ true).
-      inl (k, cond-true _ _ _ t, record { below = omega arith; on = eqb-true _ _ t; highest = λ w h e. omega arith }))
+    inl (k, cond-true _ _ _ t, record { below = omega arith; on = eqb-true _ _ t; highest = λ w h e. omega arith }))
     (λ (t : eqb (processor-of actors k) p ≡ false).
-      let not-k = eqb-false (processor-of actors k) p t in
-      let up : (w : ℕ) → w < suc k → processor-of actors w ≡ p → w < k = λ w h e.
-        ⊎-elim (λ (l : w < k). l) (λ (l : k ≤ w). let same : w ≡ k = omega arith in absurd (not-k (sym (ap (processor-of actors) same) ∙ e))) (cases-lt w k) in
-      ⊎-elim
-      (λ (f : (u : ℕ) × (last-on actors p k ≡ Some u) × Last actors p k u).
-        inl (f .0, cond-false _ _ _ t ∙ f .1, record { below = omega (arith, f .2 .below); on = f .2 .on; highest = λ w h e. f .2 .highest w (up w h e) e }))
-      (λ (f : (last-on actors p k ≡ None) × ((w : ℕ) → w < k → processor-of actors w ≡ p → ⊥)).
-        inr (cond-false _ _ _ t ∙ f .0, λ w h e. f .1 w (up w h e) e))
-      (last-found actors p k))
+    let not-k = eqb-false (processor-of actors k) p t in
+    let up : (w : ℕ) → w < suc k → processor-of actors w ≡ p → w < k = λ w h e.
+    ⊎-elim (λ (l : w < k). l) (λ (l : k ≤ w). let same : w ≡ k = omega arith in absurd (not-k (sym (ap (processor-of actors) same) ∙ e))) (cases-lt w k) in
+    ⊎-elim
+    (λ (f : (u : ℕ) × (last-on actors p k ≡ Some u) × Last actors p k u).
+    inl (f .0, cond-false _ _ _ t ∙ f .1, record { below = omega (arith, f .2 .below); on = f .2 .on; highest = λ w h e. f .2 .highest w (up w h e) e }))
+    (λ (f : (last-on actors p k ≡ None) × ((w : ℕ) → w < k → processor-of actors w ≡ p → ⊥)).
+    inr (cond-false _ _ _ t ∙ f .0, λ w h e. f .1 w (up w h e) e))
+    (last-found actors p k))
     (cases-bool (eqb (processor-of actors k) p))
-
-in-counting : (f : ℕ → Edge) (a k i : ℕ) → a ≤ i → i < a + k → In (f i) (map f (counting a k))
-in-counting f a zero i lo hi = absurd (omega arith)
-in-counting f a (suc k) i lo hi =
-    ⊎-elim (λ (e : i ≡ a). inl (ap f e)) (λ (d : i ≡ a → ⊥). inr (in-counting f (a + 1) k i (⊎-elim (λ (e : i ≡ a). absurd (d e)) (λ (o : (i < a) ⊎ (a < i)). ⊎-elim (λ (l : i < a). omega arith) (λ (l : a < i). omega arith) o) (cases-order i a)) (omega arith)))
-    (cases-eq i a)
 
 module _ (actors : List Actor) where
   abbrev pub on : ℕ → ℕ
@@ -56,7 +49,7 @@ module _ (actors : List Actor) where
 
   -- the order's edge into v
   pub entered : (v : ℕ) → v < length actors → (e : Edge) → order-edge actors v ≡ e → In e (orders actors)
-  entered v h e p = subst (λ x. In x (orders actors)) p (in-counting (order-edge actors) 0 (length actors) v (omega arith) (omega arith))
+  entered v h e p = subst (λ x. In x (orders actors)) p (has-map (order-edge actors) (counting 0 (length actors)) v (has-counting 0 (length actors) v (omega arith) (omega arith)))
 
   pub from-before : (v u : ℕ) → last-on actors (on v) v ≡ Some u → order-edge actors v ≡ edge u v 0
   unfolding order-edge
@@ -72,13 +65,13 @@ module _ (actors : List Actor) where
   later (suc k) u v le lt h e =
       ⊎-elim
       (λ (f : (b : ℕ) × (last-on actors (on v) v ≡ Some b) × Last actors (on v) v b).
-        let b = f .0 in
-        let i = entered v h (edge b v 0) (from-before v b (f .1)) in
-        let up = f .2 .highest u lt e in
-        ⊎-elim
-        (λ (l : u < b). path-joined {c = 0} {d = 0} (later k u b (omega (arith, f .2 .below)) l (omega (arith, f .2 .below)) (e ∙ sym (f .2 .on))) (last i))
-        (λ (l : b ≤ u). let same : b ≡ u = omega arith in subst (λ x. Path (orders actors) x v 0) same (last i))
-        (cases-lt u b))
+      let b = f .0 in
+      let i = entered v h (edge b v 0) (from-before v b (f .1)) in
+      let up = f .2 .highest u lt e in
+      ⊎-elim
+      (λ (l : u < b). path-joined {c = 0} {d = 0} (later k u b (omega (arith, f .2 .below)) l (omega (arith, f .2 .below)) (e ∙ sym (f .2 .on))) (last i))
+      (λ (l : b ≤ u). let same : b ≡ u = omega arith in subst (λ x. Path (orders actors) x v 0) same (last i))
+      (cases-lt u b))
       (λ (f : (last-on actors (on v) v ≡ None) × ((w : ℕ) → w < v → on w ≡ on v → ⊥)). absurd (f .1 u lt e))
       (last-found actors (on v) v)
 
@@ -101,8 +94,8 @@ module _ (actors : List Actor) where
   first-of (suc k) v le =
       ⊎-elim
       (λ (f : (b : ℕ) × (last-on actors (on v) v ≡ Some b) × Last actors (on v) v b).
-        let r = first-of k (f .0) (omega (arith, f .2 .below)) in
-        (r .0, record { before = omega (arith, r .1 .before, f .2 .below); same = r .1 .same ∙ f .2 .on; lowest = r .1 .lowest }))
+      let r = first-of k (f .0) (omega (arith, f .2 .below)) in
+      (r .0, record { before = omega (arith, r .1 .before, f .2 .below); same = r .1 .same ∙ f .2 .on; lowest = r .1 .lowest }))
       (λ (f : (last-on actors (on v) v ≡ None) × ((w : ℕ) → w < v → on w ≡ on v → ⊥)). (v, record { before = omega arith; same = refl; lowest = f .0 }))
       (last-found actors (on v) v)
 
@@ -111,13 +104,13 @@ module _ (actors : List Actor) where
   to-first u f hu hf e none =
       ⊎-elim
       (λ (l : (b : ℕ) × (last-on actors (on f) (length actors) ≡ Some b) × Last actors (on f) (length actors) b).
-        let b = l .0 in
-        let i = entered f hf (edge b f 1) (from-last f b none (l .1)) in
-        let up = l .2 .highest u hu e in
-        ⊎-elim
-        (λ (lt : u < b). path-joined {c = 0} {d = 1} (later-path u b lt (l .2 .below) (e ∙ sym (l .2 .on))) (last i))
-        (λ (ge : b ≤ u). let same : b ≡ u = omega arith in subst (λ x. Path (orders actors) x f 1) same (last i))
-        (cases-lt u b))
+      let b = l .0 in
+      let i = entered f hf (edge b f 1) (from-last f b none (l .1)) in
+      let up = l .2 .highest u hu e in
+      ⊎-elim
+      (λ (lt : u < b). path-joined {c = 0} {d = 1} (later-path u b lt (l .2 .below) (e ∙ sym (l .2 .on))) (last i))
+      (λ (ge : b ≤ u). let same : b ≡ u = omega arith in subst (λ x. Path (orders actors) x f 1) same (last i))
+      (cases-lt u b))
       (λ (l : (last-on actors (on f) (length actors) ≡ None) × ((w : ℕ) → w < length actors → on w ≡ on f → ⊥)). absurd (l .1 f hf refl))
       (last-found actors (on f) (length actors))
 

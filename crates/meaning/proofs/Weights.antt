@@ -1,28 +1,18 @@
 -- A weight of links that falls from a link to those on a path that makes it redundant.
-use mathlib.Core.Path.{_≡_, refl, ap, sym}
-use mathlib.Core.Bool.{Bool, true}
+use mathlib.Core.Path.{_≡_, ap, sym}
 use mathlib.Core.List.{List}
 use mathlib.Core.Logic.{_⊎_, inl, inr}
-use Prim.Native.Nat.{ℕ, zero, suc, _+_, _*_, _<_, _≤_}
+use Prim.Native.Nat.{ℕ, _+_, _*_, _<_, _≤_}
 use native.Mathlib.Omega.{arith}
-use Rattle.std.proofs.shelf.Tests.{cases-lt, cond-both}
+use Rattle.std.proofs.shelf.Tests.{cases-lt}
 use Rattle.records.specs.declared.tables.Edge.{Edge}
 use Rattle.waits.specs.Counting.{count}
 use Rattle.waits.specs.Events.{In, Within, Live, Path}
-use Rattle.waits.proofs.Counting.{without, without-keeps, count-without, counting}
 use Rattle.waits.proofs.Paths.{path-joined}
 use Rattle.waits.specs.Walks.{Stop}
+use Rattle.meaning.proofs.Tallies.{count-at-most, count-less}
 use Rattle.meaning.proofs.Free.{free, free-if-path, path-if-free}
 use Rattle.meaning.proofs.Twins.{same-edge}
-
-count-le : (p : ℕ → Bool) (n : ℕ) → count p n ≤ n
-count-le p zero = omega arith
-count-le p (suc n) = let l = count-le p n in cond-both (p n) 1 0 (λ k. k + count p n ≤ suc n) (λ _. omega arith) (λ _. omega arith)
-
--- fewer numbers below n pass p than q if those that pass p pass q, and one passes q alone
-fewer : (n : ℕ) (p q : ℕ → Bool) → ((x : ℕ) → x < n → p x ≡ true → q x ≡ true) → (a : ℕ) → a < n → (p a ≡ true → ⊥) → q a ≡ true → count p n < count q n
-fewer n p q h a l pa qa =
-    omega (arith, count-without q a n l qa, counting p (without q a) (λ x. x) n n (λ x b t. (x, b, without-keeps q a x (h x b t) (λ e. pa (rw e at t)), refl)))
 
 -- no edge, or a path
 abbrev pub Way : List Edge → ℕ → ℕ → ℕ → Type 0
@@ -41,25 +31,25 @@ module _ (n : ℕ) (es : List Edge) (within : Within n es) (live : Live es) wher
   unfolding ahead
   ahead-falls u w hu hw (inl s) = inl (s .0)
   ahead-falls u w hu hw (inr p) =
-      inr (fewer n (λ x. free n es within w x) (λ x. free n es within u x)
-        (λ x l t. free-if-path n es within u x hu l (path-joined p (path-if-free n es within w x hw l t)))
-        w hw (λ t. live w (path-if-free n es within w w hw hw t)) (free-if-path n es within u w hu hw p))
+      inr (count-less (λ x. free n es within w x) (λ x. free n es within u x) n
+      (λ x l t. free-if-path n es within u x hu l (path-joined p (path-if-free n es within w x hw l t)))
+      w hw (λ t. live w (path-if-free n es within w w hw hw t)) (free-if-path n es within u w hu hw p))
 
   behind-falls : (w v : ℕ) → w < n → v < n → Way es w v 0 → (w ≡ v) ⊎ (behind w < behind v)
   unfolding behind
   behind-falls w v hw hv (inl s) = inl (s .0)
   behind-falls w v hw hv (inr p) =
-      inr (fewer n (λ x. free n es within x w) (λ x. free n es within x v)
-        (λ x l t. free-if-path n es within x v l hv (path-joined (path-if-free n es within x w l hw t) p))
-        w hw (λ t. live w (path-if-free n es within w w hw hw t)) (free-if-path n es within w v hw hv p))
+      inr (count-less (λ x. free n es within x w) (λ x. free n es within x v) n
+      (λ x l t. free-if-path n es within x v l hv (path-joined (path-if-free n es within x w l hw t) p))
+      w hw (λ t. live w (path-if-free n es within w w hw hw t)) (free-if-path n es within w v hw hv p))
 
   ahead-le : (u : ℕ) → ahead u ≤ n
   unfolding ahead
-  ahead-le u = count-le (λ x. free n es within u x) n
+  ahead-le u = count-at-most (λ x. free n es within u x) n
 
   behind-le : (v : ℕ) → behind v ≤ n
   unfolding behind
-  behind-le v = count-le (λ x. free n es within x v) n
+  behind-le v = count-at-most (λ x. free n es within x v) n
 
   -- by delay, then by how many are ahead of the sender, then by how many are behind the receiver, then by number
   pub weight : Edge → ℕ → ℕ

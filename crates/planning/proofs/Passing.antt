@@ -86,19 +86,19 @@ tables-passed actors links given lead delays reach ok =
       delays-room = ltb-false delays (n * n) (eight .0);
       reach-room = ltb-false reach (n * n) (eight .1);
       processors = λ u h.
-        let a = getD actors u no-actor in
-        let fine = or-parts (ltb 15 (a .processor)) (eqb (a .estimate) 0 || ltb 1000000 (a .estimate)) (none-bad bad-actor 9 Table 0 actors no-actor actors-ok u h) in
-        omega (arith, ltb-false 15 (a .processor) (fine .0));
+          let a = getD actors u no-actor in
+          let fine = or-parts (ltb 15 (a .processor)) (eqb (a .estimate) 0 || ltb 1000000 (a .estimate)) (none-bad bad-actor 9 Table 0 actors no-actor actors-ok u h) in
+          omega (arith, ltb-false 15 (a .processor) (fine .0));
       ends = λ k h.
-        let l = getD (take given links) k no-link in
-        let fine = or-parts (leb n (l .sender)) (leb n (l .receiver) || ltb 1000 (l .delay)) (link-fine k h) in
-        let also = or-parts (leb n (l .receiver)) (ltb 1000 (l .delay)) (fine .1) in
-        (leb-false n (l .sender) (fine .0), leb-false n (l .receiver) (also .0));
+          let l = getD (take given links) k no-link in
+          let fine = or-parts (leb n (l .sender)) (leb n (l .receiver) || ltb 1000 (l .delay)) (link-fine k h) in
+          let also = or-parts (leb n (l .receiver)) (ltb 1000 (l .delay)) (fine .1) in
+          (leb-false n (l .sender) (fine .0), leb-false n (l .receiver) (also .0));
       short = λ k h.
-        let l = getD (take given links) k no-link in
-        let fine = or-parts (leb n (l .sender)) (leb n (l .receiver) || ltb 1000 (l .delay)) (link-fine k h) in
-        let also = or-parts (leb n (l .receiver)) (ltb 1000 (l .delay)) (fine .1) in
-        ltb-false 1000 (l .delay) (also .1);
+          let l = getD (take given links) k no-link in
+          let fine = or-parts (leb n (l .sender)) (leb n (l .receiver) || ltb 1000 (l .delay)) (link-fine k h) in
+          let also = or-parts (leb n (l .receiver)) (ltb 1000 (l .delay)) (fine .1) in
+          ltb-false 1000 (l .delay) (also .1);
     }
   where
     positive : (k : ℕ) → (k ≡ 0 → ⊥) → 1 ≤ k
