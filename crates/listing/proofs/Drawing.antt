@@ -1,6 +1,6 @@
 -- From reading and planning to what is listed.
 use mathlib.Core.Path.{_≡_, refl, ap, sym, subst, _∙_}
-use mathlib.Core.List.{List, _++_}
+use mathlib.Core.List.{List}
 use Prim.Native.Nat.{ℕ, _+_, _-_, _≤_}
 use native.Mathlib.Nat.{sub-zero}
 use native.Mathlib.Omega.{arith}
@@ -8,7 +8,7 @@ use lib.ListN.{length, take, drop}
 use Rattle.std.specs.Vec.{made}
 use Rattle.std.specs.declared.result.Result.{Result}
 use Rattle.std.specs.declared.result.Result.the-variants.{Ok, Err}
-use Rattle.std.proofs.shelf.Lists.{length-append, length-drop, take-at}
+use Rattle.std.proofs.shelf.Lists.{length-append, take-at}
 use Rattle.records.specs.declared.fault.Fault.{Fault}
 use Rattle.records.specs.declared.tables.Actor.{Actor}
 use Rattle.records.specs.declared.tables.Link.{Link}
@@ -17,7 +17,7 @@ use Rattle.paths.specs.declared.reach.Reach.{Reach}
 use Rattle.reader.specs.Reading.{Drawing, counts-of, actors-after, links-after}
 use Rattle.reader.specs.Words.{over}
 use Rattle.reader.specs.declared.Counts.{Counts}
-use Rattle.planning.specs.Planning.{Given, Totals, drawing, planned}
+use Rattle.planning.specs.Planning.{Totals, drawing, planned}
 use Rattle.planner.specs.Slips.{slip-answer}
 use Rattle.planner.specs.declared.plans.Slip.{Slip}
 use Rattle.listing.specs.Drawn.{Drawn, answer-bytes}

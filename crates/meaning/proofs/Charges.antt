@@ -9,21 +9,19 @@ use lib.Dec.{eqb}
 use lib.ListN.{length, getD, take}
 use Rattle.std.specs.declared.result.Result.the-variants.{Ok}
 use Rattle.std.proofs.shelf.Lists.{length-map}
-use Rattle.std.proofs.shelf.Tests.{cases-bool, cond-both, eqb-true, eqb-false, eq-eqb, both-ways}
-use Rattle.std.proofs.shelf.Ways.{not-from-decides}
+use Rattle.std.proofs.shelf.Tests.{cases-bool, eqb-true, eqb-false, both-ways}
 use Rattle.records.specs.declared.tables.Actor.{Actor}
 use Rattle.records.specs.declared.tables.Edge.{Edge}
 use Rattle.records.specs.declared.tables.Link.{Link}
-use Rattle.records.specs.Tables.{no-link, link-edge, processor-of}
+use Rattle.records.specs.Tables.{no-link, link-edge}
 use Rattle.waits.specs.Counting.{count}
-use Rattle.planning.specs.Costs.{link-cost-before, cost-before, link-cost-after, cost-after}
+use Rattle.planning.specs.Costs.{link-cost-before, cost-before, cost-after}
 use Rattle.planning.specs.Groups.{same-group}
 use Rattle.planning.specs.Marks.{local}
-use Rattle.planning.specs.Planning.{Given, tables-check, base-edges, base-delays, plan-links, plan-totals}
+use Rattle.planning.specs.Planning.{Given, tables-check, base-edges, plan-links, plan-totals}
 use Rattle.planning.specs.Tables.{least-delays}
-use Rattle.meaning.specs.Components.{Group}
 use Rattle.meaning.specs.Costing.{Local, Link-costs, Costs}
-use Rattle.meaning.specs.Promises.{given-edges, plan-edges, waited, Costs-mean}
+use Rattle.meaning.specs.Promises.{plan-edges, waited, Costs-mean}
 use Rattle.meaning.proofs.Costs.{plan-costs-no-more}
 use Rattle.meaning.proofs.Drawn.{passed, base-small}
 use Rattle.meaning.proofs.Groups.{group-decides}

@@ -2,8 +2,8 @@
 use mathlib.Core.Path.{_≡_, refl, ap, sym, subst, _∙_}
 use mathlib.Core.Bool.{Bool, true, false}
 use mathlib.Core.List.{List, [], _∷_}
-use mathlib.Core.Logic.{_⊎_, inl, inr, ⊎-elim}
-use Prim.Native.Nat.{ℕ, zero, suc, _+_, _<_, _≤_}
+use mathlib.Core.Logic.{⊎-elim}
+use Prim.Native.Nat.{ℕ, zero, suc, _+_, _<_}
 use native.Mathlib.Nat.{zero-add}
 use native.Mathlib.Omega.{arith}
 use lib.ListN.{length, getD}
@@ -11,7 +11,7 @@ use Rattle.std.specs.Iters.{counting}
 use Rattle.std.specs.declared.result.Result.{Result}
 use Rattle.std.specs.declared.result.Result.the-variants.{Ok, Err}
 use Rattle.std.proofs.shelf.Counted.{length-counting, getD-counting}
-use Rattle.std.proofs.shelf.Tests.{cases-bool, cases-lt, cond-true, cond-false, both-ways}
+use Rattle.std.proofs.shelf.Tests.{cases-bool, cond-true, cond-false, both-ways}
 use Rattle.records.specs.declared.fault.Fault.{Fault}
 use Rattle.records.specs.declared.fault.Layer.{Layer}
 use Rattle.records.specs.declared.fault.Layer.the-variants.{Plan}
@@ -22,7 +22,7 @@ use Rattle.waits.proofs.Waits.{cycle-blocks}
 use Rattle.planning.specs.Checks.{refuse-first, on-cycle, check-cycles}
 use Rattle.planning.specs.Planning.{Given, Totals, base-edges, free-paths, tables-check, cycles-check, refused, deadlocked, accepted, unless, planned}
 use Rattle.planning.proofs.Passing.{err-not-ok, none-bad}
-use Rattle.meaning.specs.Promises.{Runs, given-edges, Lowest-on-cycle, Deadlock, Deadlock-exactly}
+use Rattle.meaning.specs.Promises.{Runs, given-edges, Lowest-on-cycle, Deadlock-exactly}
 use Rattle.meaning.proofs.Drawn.{base-small}
 use Rattle.meaning.proofs.Following.{follows, obeys-edges}
 use Rattle.meaning.proofs.Free.{free-if-path, path-if-free}

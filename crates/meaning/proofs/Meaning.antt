@@ -1,37 +1,36 @@
 -- What a plan means, from what is known of its back links.
 use mathlib.Core.Path.{_≡_, refl, ap, sym, subst, _∙_}
-use mathlib.Core.Bool.{Bool, true, false, cond, _||_}
-use mathlib.Core.List.{List, [], _∷_, _++_, map}
+use mathlib.Core.Bool.{Bool, true, false, cond}
+use mathlib.Core.List.{List, [], _∷_, _++_}
 use mathlib.Core.Logic.{_⊎_, inl, inr, ⊎-elim}
-use Prim.Native.Nat.{ℕ, suc, _+_, _-_, _*_, _<_, _≤_, min}
+use Prim.Native.Nat.{ℕ, suc, _+_, _<_, _≤_}
 use native.Mathlib.Omega.{arith}
 use lib.Dec.{eqb}
 use lib.ListN.{length, getD, take}
 use Rattle.std.specs.declared.result.Result.the-variants.{Ok}
 use Rattle.std.specs.Iters.{counting}
-use Rattle.std.proofs.shelf.Lists.{getD-append-left, length-map, length-take, length-take-le, take-all}
-use Rattle.std.proofs.shelf.Tests.{cases-lt, cases-bool, cond-true, cond-false, or-left, or-right, or-cases, eq-eqb, ne-eqb, eqb-true, eqb-false, both-ways}
+use Rattle.std.proofs.shelf.Lists.{length-map, length-take, length-take-le}
+use Rattle.std.proofs.shelf.Tests.{cases-lt, cases-bool, cond-true, cond-false, or-left, or-right, or-cases, eq-eqb, ne-eqb, eqb-true}
 use Rattle.records.specs.declared.tables.Edge.{Edge}
 use Rattle.records.specs.declared.tables.Link.{Link}
 use Rattle.records.specs.Tables.{no-link, edge, link-edge, processor-of}
 use Rattle.waits.specs.Counting.{count}
 use Rattle.waits.specs.Drawings.{Follows, Enforced}
-use Rattle.waits.specs.Events.{Event, starts, finishes, In, Lawful, Obeys, Obeys-all, Path, Live, Within}
+use Rattle.waits.specs.Events.{Event, starts, finishes, In, Lawful, Obeys, Obeys-all, Path, Live}
 use Rattle.waits.proofs.Paths.{in-++, path-over-more}
 use Rattle.paths.specs.Closure.{entry}
 use Rattle.paths.specs.Models.{delay-ops}
 use Rattle.planning.specs.Backs.{backs-among, backs}
 use Rattle.planning.specs.Edges.{orders, without}
 use Rattle.planning.specs.Marks.{local, redundant, mark-of}
-use Rattle.planning.specs.Planning.{Given, tables-check, edges-with, ground, all-links, back-links, plan-delays, plan-links}
+use Rattle.planning.specs.Planning.{Given, tables-check, edges-with, ground, all-links, back-links, plan-delays}
 use Rattle.meaning.specs.Choices.{place, chosen}
-use Rattle.meaning.specs.Promises.{given-edges, plan-edges, mark-at, size-at, waited, waited-edges, Cross, Crossing, Replaced, Least, Plan-means}
+use Rattle.meaning.specs.Promises.{given-edges, plan-edges, mark-at, size-at, waited, waited-edges, Cross, Crossing, Replaced, Plan-means}
 use Rattle.meaning.specs.Components.{Reaches}
-use Rattle.meaning.proofs.BackEnds.{Fine-link}
 use Rattle.meaning.proofs.Chosen.{in-left, in-right, in-more, in-place, chosen-part}
 use Rattle.meaning.proofs.Covers.{Covers}
 use Rattle.meaning.proofs.Delays.{least, least-low, least-short}
-use Rattle.meaning.proofs.Drawn.{passed, link-in}
+use Rattle.meaning.proofs.Drawn.{passed}
 use Rattle.meaning.proofs.Dropping.{Spared, dropped-at-once}
 use Rattle.meaning.proofs.Enforcing.{enforced-covered, covered-enforced}
 use Rattle.meaning.proofs.Fewest.{Needed, fewest}

@@ -1,6 +1,5 @@
 -- The edges of an accepted drawing with its back links.
 use mathlib.Core.Path.{_≡_, refl, sym, subst}
-use mathlib.Core.List.{[]}
 use mathlib.Core.Logic.{⊎-elim}
 use Prim.Native.Nat.{ℕ, _-_, _<_, _≤_}
 use native.Mathlib.Omega.{arith}

@@ -14,7 +14,7 @@ use Rattle.records.specs.declared.tables.Link.{Link}
 use Rattle.records.specs.Tables.{link-edge}
 use Rattle.paths.specs.declared.delay.Delay.{Delay}
 use Rattle.planning.specs.Marks.{numbered, mark-link, marked, sized}
-use Rattle.planning.specs.Planning.{Given, Totals, Outcome, tables-check, cycles-check, refused, deadlocked, accepted, unless, back-links, all-links, plan-delays, plan-links, plan-totals, planned}
+use Rattle.planning.specs.Planning.{Given, Totals, Outcome, tables-check, cycles-check, refused, deadlocked, accepted, unless, back-links, plan-delays, plan-links, plan-totals, planned}
 use Rattle.meaning.specs.Promises.{plan-edges, Costs-mean, Found, Plan-means, Promise}
 use Rattle.meaning.proofs.Charges.{costs-mean}
 use Rattle.meaning.proofs.Deadlocks.{deadlock-exactly, passes-cycles}

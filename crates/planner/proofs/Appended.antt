@@ -5,7 +5,7 @@ use mathlib.Core.Logic.{_≢_, ⊎-elim}
 use Prim.Native.Nat.{ℕ, _+_, _<_, _≤_}
 use native.Mathlib.Omega.{arith}
 use lib.ListN.{length, getD, set, take}
-use Rattle.std.proofs.shelf.Lists.{length-take, length-set, length-take-le, getD-take, getD-set-same, getD-set-other}
+use Rattle.std.proofs.shelf.Lists.{length-set, length-take-le, getD-take, getD-set-same, getD-set-other}
 use Rattle.std.proofs.shelf.Tests.{cases-lt}
 use Rattle.records.specs.declared.tables.Link.{Link}
 use Rattle.records.specs.Tables.{no-link}

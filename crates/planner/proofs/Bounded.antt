@@ -1,6 +1,6 @@
 -- The ends of a drawing's edges are actors.
 use mathlib.Core.Path.{_≡_, sym, subst}
-use mathlib.Core.Bool.{cond, _&&_}
+use mathlib.Core.Bool.{_&&_}
 use mathlib.Core.List.{List, [], _∷_, _++_, map}
 use Prim.Native.Nat.{ℕ, zero, suc, _+_, _<_, _≤_}
 use native.Mathlib.Omega.{arith}

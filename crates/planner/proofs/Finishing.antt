@@ -1,14 +1,13 @@
 -- From the steps of planning to the plan.
-use mathlib.Core.Path.{_≡_, refl, ap, sym, _∙_}
-use mathlib.Core.List.{List, [], _∷_, _++_, map}
-use Prim.Native.Nat.{ℕ, _+_, _-_, _*_, _<_, _≤_}
+use mathlib.Core.Path.{_≡_, ap, sym, _∙_}
+use mathlib.Core.List.{List, _++_, map}
+use Prim.Native.Nat.{ℕ, _+_, _-_, _*_, _≤_}
 use native.Mathlib.Nat.{sub-zero}
 use native.Mathlib.Omega.{arith}
 use lib.ListN.{length, take, drop}
 use Rattle.std.specs.Iters.{counting}
 use Rattle.std.proofs.shelf.Lists.{append-assoc, length-append, length-map, length-take-le, length-drop, take-at, take-take, take-append-drop, drop-at, drop-drop, drop-take}
 use Rattle.records.specs.declared.tables.Actor.{Actor}
-use Rattle.records.specs.declared.tables.Edge.{Edge}
 use Rattle.records.specs.declared.tables.Link.{Link}
 use Rattle.records.specs.Tables.{link-edge}
 use Rattle.paths.specs.Models.{delay-ops}
@@ -16,7 +15,7 @@ use Rattle.paths.specs.declared.delay.Delay.{Delay}
 use Rattle.planning.specs.declared.Sight.the-variants.{Directed}
 use Rattle.planning.specs.Backs.{Ground, count, backs-among, backs}
 use Rattle.planning.specs.Edges.{orders}
-use Rattle.planning.specs.Marks.{numbered, mark-link, marked, size-link, sized}
+use Rattle.planning.specs.Marks.{mark-link, marked, size-link, sized}
 use Rattle.planning.specs.Planning.{over}
 use Rattle.planning.specs.Tables.{paths-over}
 use Rattle.planning.proofs.Standing.{length-paths-over}
@@ -25,7 +24,7 @@ use Rattle.planner.specs.Steps.{with-backs, delays-over, finished}
 use Rattle.planner.proofs.Placed.{put-all-is, put-end-is}
 use Rattle.planning.proofs.Numbered.{length-numbered}
 use Rattle.planner.proofs.Rewriting.{front-edges-kept}
-use Rattle.planner.proofs.Surveying.{filled-over, front-of}
+use Rattle.planner.proofs.Surveying.{front-of}
 
 -- the back links stand after the given ones
 module _ (g : Ground) (lead : ℕ) (links : List Link) (given : ℕ) (room : given + 15 ≤ length links) where

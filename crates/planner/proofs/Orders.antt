@@ -7,9 +7,9 @@ use native.Mathlib.Numerals.{add-one}
 use lib.Dec.{eqb}
 use lib.ListN.{length}
 use Rattle.std.specs.declared.option.Option.{Option}
-use Rattle.std.specs.declared.option.Option.the-variants.{Some, None}
+use Rattle.std.specs.declared.option.Option.the-variants.{Some}
 use Rattle.records.specs.declared.tables.Actor.{Actor}
-use Rattle.records.specs.Tables.{edge, processor-of}
+use Rattle.records.specs.Tables.{processor-of}
 use Rattle.planning.specs.Edges.{last-on, edge-into, order-edge}
 
 pub last-on-more : (actors : List Actor) (p u k : ℕ) → u ≡ k + 1

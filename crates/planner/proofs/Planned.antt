@@ -1,7 +1,7 @@
 -- The plan of a drawing that passed the survey.
 use mathlib.Core.Path.{_≡_, refl, ap, sym, _∙_}
 use mathlib.Core.List.{List, _++_, map}
-use Prim.Native.Nat.{ℕ, _+_, _-_, _*_, _≤_}
+use Prim.Native.Nat.{ℕ, _+_, _-_, _≤_}
 use native.Mathlib.Omega.{arith}
 use lib.ListN.{length, take, drop}
 use Rattle.std.specs.declared.result.Result.{Result}
@@ -12,11 +12,10 @@ use Rattle.records.specs.declared.tables.Link.{Link}
 use Rattle.records.specs.Tables.{link-edge}
 use Rattle.paths.specs.declared.delay.Delay.{Delay}
 use Rattle.paths.specs.declared.reach.Reach.{Reach}
-use Rattle.planning.specs.Backs.{backs}
 use Rattle.planning.specs.Costs.{cost-before, cost-after}
 use Rattle.planning.specs.Marks.{mark-link, marked, size-link, sized}
-use Rattle.planning.specs.Planning.{Given, Outcome, Totals, over, base-delays, ground, back-links, all-links, plan-delays, plan-links, plan-totals, tables-check, cycles-check, refused, deadlocked, live, accepted, unless, surveyed, planned}
-use Rattle.planner.specs.Steps.{ground-of, with-backs, delays-over, finished}
+use Rattle.planning.specs.Planning.{Given, Outcome, Totals, over, base-delays, back-links, all-links, plan-delays, plan-links, plan-totals, tables-check, cycles-check, refused, deadlocked, live, accepted, unless, surveyed, planned}
+use Rattle.planner.specs.Steps.{with-backs, delays-over, finished}
 use Rattle.planning.proofs.Numbered.{length-numbered}
 use Rattle.planning.proofs.Passing.{err-not-ok}
 

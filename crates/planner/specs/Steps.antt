@@ -3,11 +3,10 @@ use mathlib.Core.List.{List, _++_, map}
 use Prim.Native.Nat.{ℕ, _+_}
 use lib.ListN.{length, take, drop}
 use Rattle.records.specs.declared.tables.Actor.{Actor}
-use Rattle.records.specs.declared.tables.Edge.{Edge}
 use Rattle.records.specs.declared.tables.Link.{Link}
 use Rattle.records.specs.Tables.{link-edge}
 use Rattle.paths.specs.declared.delay.Delay.{Delay}
-use Rattle.planning.specs.Backs.{Ground, backs}
+use Rattle.planning.specs.Backs.{Ground}
 use Rattle.planning.specs.Edges.{orders}
 use Rattle.planning.specs.Marks.{marked, sized}
 use Rattle.planning.specs.Tables.{least-delays, parts}

@@ -1,6 +1,6 @@
 -- The edges of a drawing: the processors' orders, and the links.
 use mathlib.Core.Bool.{Bool, cond, _&&_}
-use mathlib.Core.List.{List, [], _∷_, _++_, map}
+use mathlib.Core.List.{List, [], _∷_, map}
 use Prim.Native.Nat.{ℕ, zero, suc, _+_, _<_}
 use lib.Dec.{eqb, leb}
 use lib.ListN.{length}
@@ -9,7 +9,6 @@ use Rattle.std.specs.declared.option.Option.{Option}
 use Rattle.std.specs.declared.option.Option.the-variants.{Some, None}
 use Rattle.records.specs.declared.tables.Actor.{Actor}
 use Rattle.records.specs.declared.tables.Edge.{Edge}
-use Rattle.records.specs.declared.tables.Link.{Link}
 use Rattle.records.specs.Tables.{edge, processor-of}
 
 -- the highest actor below k on the processor p

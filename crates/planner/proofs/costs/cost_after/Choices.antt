@@ -1,6 +1,6 @@
 use mathlib.Core.Path.{_≡_}
 use Prim.Native.Nat.{_+_, _*_, _≤_}
-use lib.ListN.{length, drop}
+use lib.ListN.{drop}
 use Rattle.planning.specs.Costs.{cost-after}
 use Rattle.planner.proofs.costs.cost_after.Given as given
 

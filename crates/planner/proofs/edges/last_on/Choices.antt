@@ -1,5 +1,4 @@
 use mathlib.Core.Path.{_≡_}
-use Prim.Native.Nat.{_≤_}
 use Rattle.planning.specs.Edges.{last-on}
 use Rattle.planner.proofs.edges.last_on.Given as given
 

@@ -1,4 +1,4 @@
-use mathlib.Core.Path.{_≡_, sym, ap, subst, _∙_}
+use mathlib.Core.Path.{sym, ap, _∙_}
 use mathlib.Core.List.{map}
 use Prim.Native.Nat.{_-_, _*_}
 use native.Mathlib.Nat.{sub-zero}
@@ -8,7 +8,7 @@ use Rattle.std.proofs.shelf.Lists.{length-take-le}
 use Rattle.records.specs.Tables.{link-edge}
 use Rattle.planning.specs.Costs.{cost-after}
 use Rattle.planner.proofs.Bounded.{ends-moved}
-use Rattle.planner.proofs.Finishing.{marked-edges, delays-filled, delays-front, links-finished, front-finished}
+use Rattle.planner.proofs.Finishing.{marked-edges, delays-filled, links-finished, front-finished}
 use Rattle.planner.proofs.plans.mark_and_size.Needs as need
 
 pub fill-requires : need.fill-requires

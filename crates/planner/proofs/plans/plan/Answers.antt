@@ -1,4 +1,4 @@
-use mathlib.Core.Path.{_≡_, refl, sym, ap, subst, _∙_}
+use mathlib.Core.Path.{sym, ap, subst, _∙_}
 use Prim.Native.Nat.{_+_, _*_, _≤_}
 use native.Mathlib.Omega.{arith}
 use lib.ListN.{length, take}
@@ -9,7 +9,7 @@ use Rattle.std.proofs.shelf.Results.{err-from-errBy}
 use Rattle.records.specs.Faults.{told}
 use Rattle.paths.specs.Models.{reach-ops, delay-ops}
 use Rattle.planning.specs.declared.Sight.the-variants.{Directed, Loose}
-use Rattle.planning.specs.Planning.{drawing, over, base-edges, edges-with, all-links, base-delays, free-paths, ground, plan-delays, planned}
+use Rattle.planning.specs.Planning.{drawing, over, base-edges, edges-with, all-links, base-delays, free-paths, ground, plan-delays}
 use Rattle.planning.proofs.Standing.{length-paths-over}
 use Rattle.meaning.proofs.Promised.{promise}
 use Rattle.planner.specs.Slips.{slip-of, slip-answer, slip-values}

@@ -1,7 +1,6 @@
-use mathlib.Core.Path.{_≡_, sym, subst, _∙_}
+use mathlib.Core.Path.{sym, subst, _∙_}
 use Prim.Native.Nat.{_<_}
 use native.Mathlib.Omega.{arith}
-use lib.ListN.{length}
 use Rattle.std.proofs.shelf.Lists.{length-take-le, getD-take}
 use Rattle.records.specs.declared.tables.Link.{Link}
 use Rattle.records.specs.Tables.{no-link}

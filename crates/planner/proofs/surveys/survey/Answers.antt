@@ -1,15 +1,14 @@
-use mathlib.Core.Path.{_≡_, sym, ap, subst, _∙_}
+use mathlib.Core.Path.{sym, ap, subst, _∙_}
 use mathlib.Core.List.{[]}
 use native.Mathlib.Nat.{sub-zero}
-use native.Mathlib.Omega.{arith}
 use lib.ListN.{length, take}
-use Rattle.std.specs.declared.result.Result.the-variants.{Ok, Err}
+use Rattle.std.specs.declared.result.Result.the-variants.{Err}
 use Rattle.std.proofs.shelf.Results.{err-from-errBy}
 use Rattle.records.specs.Faults.{told}
 use Rattle.paths.specs.Models.{reach-ops, delay-ops}
 use Rattle.planning.specs.declared.Sight.the-variants.{Directed}
 use Rattle.planning.specs.Checks.{check-cycles}
-use Rattle.planning.specs.Planning.{drawing, base-edges, surveyed}
+use Rattle.planning.specs.Planning.{drawing, base-edges}
 use Rattle.planner.specs.Within.{Ends-below}
 use Rattle.planning.proofs.Passing.{err-not-ok}
 use Rattle.planner.proofs.Soundness.{made-sound}

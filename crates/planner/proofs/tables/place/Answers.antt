@@ -1,4 +1,3 @@
-use native.Mathlib.Omega.{arith}
 use mathlib.Core.Path.{refl}
 use Rattle.std.proofs.shelf.Bits.{mul-add-lt}
 use Rattle.planner.proofs.tables.place.Needs as need

@@ -1,7 +1,7 @@
 use mathlib.Core.Path.{_≡_, sym, _∙_}
 use lib.ListN.{length}
 use native.Mathlib.Omega.{arith}
-use Rattle.planning.specs.Groups.{all-below, answered, end-group}
+use Rattle.planning.specs.Groups.{answered, end-group}
 use Rattle.planner.proofs.Below.{all-more, all-fails}
 use Rattle.planner.proofs.ground.Ground.is_entry.Needs as need
 

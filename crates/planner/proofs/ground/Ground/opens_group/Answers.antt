@@ -2,7 +2,7 @@ use mathlib.Core.Path.{_≡_, sym, ap, _∙_}
 use mathlib.Core.Bool.{not}
 use lib.ListN.{length}
 use native.Mathlib.Omega.{arith}
-use Rattle.planning.specs.Groups.{all-below, same-group, opens-group}
+use Rattle.planning.specs.Groups.{same-group, opens-group}
 use Rattle.planner.proofs.Below.{all-more, all-fails}
 use Rattle.planner.proofs.ground.Ground.opens_group.Needs as need
 

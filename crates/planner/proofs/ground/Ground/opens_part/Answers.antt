@@ -2,7 +2,7 @@ use mathlib.Core.Path.{_≡_, sym, ap, _∙_}
 use mathlib.Core.Bool.{not}
 use lib.ListN.{length}
 use native.Mathlib.Omega.{arith}
-use Rattle.planning.specs.Groups.{all-below, same-part, opens-part}
+use Rattle.planning.specs.Groups.{same-part, opens-part}
 use Rattle.planner.proofs.Below.{all-more, all-fails}
 use Rattle.planner.proofs.ground.Ground.opens_part.Needs as need
 
