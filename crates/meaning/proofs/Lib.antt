@@ -51,5 +51,6 @@ pub mod BackLinks
 pub mod OneList
 pub mod PlanBacks
 pub mod Charges
+pub mod Replacing
 pub mod Meaning
 pub mod Promised

@@ -41,6 +41,7 @@ use Rattle.meaning.proofs.Locals.{local-covered}
 use Rattle.meaning.proofs.Planned.{all-fine, all-small}
 use Rattle.meaning.proofs.Reaching.{least-small}
 use Rattle.meaning.proofs.Redundancy.{redundant-path, path-redundant}
+use Rattle.meaning.proofs.Replacing.{covered-replaced, replaced-covered}
 use Rattle.meaning.proofs.Turns.{round-path}
 
 -- an edge of a list, by its place
@@ -251,17 +252,17 @@ module _ (d : Given) (ok : tables-check d ≡ Ok tt) (live : Live (edges-with d 
     dropped zero =
         let is = mark-is i (x .given) ∙ cond-false _ _ _ not-local in
         ⊎-elim
-        (λ (r : redundant (d .actors) (plan-edges d) i (place (plan-edges d) i) ≡ true). redundant-covers i below r)
+        (λ (r : redundant (d .actors) (plan-edges d) i (place (plan-edges d) i) ≡ true). covered-replaced d i (redundant-covers i below r))
         (λ (r : redundant (d .actors) (plan-edges d) i (place (plan-edges d) i) ≡ false). absurd (omega (arith, is ∙ cond-false _ _ _ r, zero)))
         (cases-bool (redundant (d .actors) (plan-edges d) i (place (plan-edges d) i)))
 
     replaced : Replaced d i → mark-at d i ≡ 0
-    replaced c = mark-is i (x .given) ∙ cond-false _ _ _ not-local ∙ cond-true _ _ _ (covers-redundant i below c)
+    replaced c = mark-is i (x .given) ∙ cond-false _ _ _ not-local ∙ cond-true _ _ _ (covers-redundant i below (replaced-covered d i c))
 
     kept : (Replaced d i → ⊥) → mark-at d i ≡ 1
     kept never =
         ⊎-elim
-        (λ (r : redundant (d .actors) (plan-edges d) i (place (plan-edges d) i) ≡ true). absurd (never (redundant-covers i below r)))
+        (λ (r : redundant (d .actors) (plan-edges d) i (place (plan-edges d) i) ≡ true). absurd (never (covered-replaced d i (redundant-covers i below r))))
         (λ (r : redundant (d .actors) (plan-edges d) i (place (plan-edges d) i) ≡ false). mark-is i (x .given) ∙ cond-false _ _ _ not-local ∙ cond-false _ _ _ r)
         (cases-bool (redundant (d .actors) (plan-edges d) i (place (plan-edges d) i)))
 

@@ -1,7 +1,8 @@
 -- What planning promises, in the words of the subject.
 use mathlib.Core.Path.{_≡_}
 use mathlib.Core.Bool.{Bool, _||_}
-use mathlib.Core.List.{List, _++_, map}
+use mathlib.Core.List.{List, map}
+use mathlib.Core.Logic.{_⊎_}
 use Prim.Native.Nat.{ℕ, _+_, _*_, _≤_, _<_}
 use lib.Dec.{eqb}
 use lib.ListN.{length, getD, take}
@@ -12,12 +13,11 @@ use Rattle.records.specs.declared.tables.Edge.{Edge}
 use Rattle.records.specs.Faults.{fault}
 use Rattle.records.specs.Tables.{no-link, link-edge, processor-of}
 use Rattle.waits.specs.Counting.{count}
-use Rattle.waits.specs.Drawings.{Follows, Enforced}
-use Rattle.waits.specs.Events.{Event, starts, finishes, Path, Live}
+use Rattle.waits.specs.Drawings.{Order, Follows, Enforced}
+use Rattle.waits.specs.Events.{Event, starts, finishes, In, Path, Live}
 use Rattle.waits.specs.Walks.{Short}
 use Rattle.paths.specs.Closure.{entry}
 use Rattle.paths.specs.Models.{delay-ops}
-use Rattle.planning.specs.Edges.{orders, without}
 use Rattle.planning.specs.Planning.{Given, Totals, over, base-edges, edges-with, all-links, back-links, plan-delays, plan-links, tables-check, planned}
 use Rattle.meaning.specs.Choices.{place, chosen}
 use Rattle.meaning.specs.Components.{Reaches, Joined, Back-links}
@@ -73,11 +73,19 @@ pub record Crossing (d : Given) (i : ℕ) : Type 0 where
   pub below : i < length (plan-edges d)
   pub across : processor-of (d .actors) (place (plan-edges d) i .sender) ≡ processor-of (d .actors) (place (plan-edges d) i .receiver) → ⊥
 
--- a path from sender to receiver has at most the link's delay, and uses neither link i nor a twin of higher number
-abbrev pub Replaced : Given → ℕ → Type 0
-Replaced d i =
-    let e = place (plan-edges d) i in
-    (t : ℕ) × (t ≤ e .delay) × Path (orders (d .actors) ++ without i e 0 (plan-edges d)) (e .sender) (e .receiver) t
+-- e is an edge of the orders, or a link that is neither link i nor a twin of it with a higher number
+abbrev pub Beside : Given → ℕ → Edge → Type 0
+Beside d i e =
+    Order (d .actors) e
+    ⊎ ((j : ℕ) × (j < length (plan-edges d)) × (place (plan-edges d) j ≡ e) × (j ≡ i → ⊥) × (i < j → place (plan-edges d) i ≡ e → ⊥))
+
+-- a path of such edges leads from the sender of link i to its receiver with at most its delay
+pub record Replaced (d : Given) (i : ℕ) : Type 0 where
+  pub edges : List Edge
+  pub beside : (e : Edge) → In e edges → Beside d i e
+  pub total : ℕ
+  pub low : total ≤ place (plan-edges d) i .delay
+  pub path : Path edges (place (plan-edges d) i .sender) (place (plan-edges d) i .receiver) total
 
 -- a number that is the smallest total delay over paths from u to v, and that of a path with at most as many edges as there
 -- are actors; or 4,294,967,295 where there is none
