@@ -19,6 +19,7 @@ use Rattle.meaning.specs.Promises.{plan-edges, Costs-mean, Found, Plan-means, 
 use Rattle.meaning.proofs.Charges.{costs-mean}
 use Rattle.meaning.proofs.Deadlocks.{deadlock-exactly, passes-cycles}
 use Rattle.meaning.proofs.Meaning.{plan-means}
+use Rattle.meaning.proofs.OrderEdges.{order-if-in, in-if-order}
 use Rattle.meaning.proofs.PlanBacks.{alive, needed, crosses, returns, backs-mean}
 
 -- sizes and marks leave the ends and delays of links as they are
@@ -81,6 +82,7 @@ module _ (d : Given) (t : Totals) (e : planned d .answer ≡ Ok t) where
 
 pub promise : (d : Given) → Promise d
 promise d = record {
+  orders = λ e. (order-if-in (d .actors) e, in-if-order (d .actors) e);
   deadlock = deadlock-exactly d;
   backs = λ t e. backs-mean d (passes-tables d t e);
   means = means d;

@@ -18,6 +18,7 @@ use Rattle.waits.specs.Events.{Event, starts, finishes, In, Path, Live}
 use Rattle.waits.specs.Walks.{Short}
 use Rattle.paths.specs.Closure.{entry}
 use Rattle.paths.specs.Models.{delay-ops}
+use Rattle.planning.specs.Edges.{orders}
 use Rattle.planning.specs.Planning.{Given, Totals, over, base-edges, edges-with, all-links, back-links, plan-delays, plan-links, tables-check, planned}
 use Rattle.meaning.specs.Choices.{place, chosen}
 use Rattle.meaning.specs.Components.{Reaches, Joined, Back-links}
@@ -147,6 +148,8 @@ pub record Found (d : Given) : Type 0 where
 
 -- all that planning promises of a drawing
 pub record Promise (d : Given) : Type 0 where
+  -- the edges that it adds to the links are those of the processors' orders
+  pub orders : (e : Edge) → (In e (orders (d .actors)) → Order (d .actors) e) × (Order (d .actors) e → In e (orders (d .actors)))
   pub deadlock : Deadlock-exactly d
   pub backs : (t : Totals) → planned d .answer ≡ Ok t → Backs-mean d
   pub means : (t : Totals) → planned d .answer ≡ Ok t → Plan-means d
