@@ -10,10 +10,9 @@ use lib.Dec.{leb}
 use lib.ListN.{length}
 use Rattle.std.proofs.shelf.Tests.{cond-both}
 use Rattle.records.specs.declared.tables.Edge.{Edge}
-use Rattle.waits.specs.Events.{In}
+use Rattle.waits.specs.Events.{In, place, chosen-from, chosen}
 use Rattle.waits.proofs.Paths.{in-++}
 use Rattle.planning.specs.Edges.{twins, without}
-use Rattle.meaning.specs.Choices.{place, chosen-from, chosen}
 
 pub in-left : (e : Edge) (es fs : List Edge) → In e es → In e (es ++ fs)
 in-left e (f ∷ es) fs (inl q) = inl q

@@ -10,8 +10,7 @@ use Rattle.records.specs.declared.tables.Actor.{Actor}
 use Rattle.records.specs.declared.tables.Edge.{Edge}
 use Rattle.records.specs.declared.tables.Link.{Link}
 use Rattle.records.specs.Tables.{no-link, link-edge}
-use Rattle.waits.specs.Drawings.{Order}
-use Rattle.waits.specs.Events.{In}
+use Rattle.waits.specs.Events.{Order, In}
 use Rattle.waits.proofs.Paths.{in-++}
 use Rattle.planning.specs.Edges.{orders}
 use Rattle.planning.specs.Planning.{Given, tables-check, base-edges}

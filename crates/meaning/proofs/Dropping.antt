@@ -8,11 +8,10 @@ use native.Mathlib.Omega.{arith}
 use lib.ListN.{length}
 use Rattle.records.specs.declared.tables.Edge.{Edge}
 use Rattle.records.specs.Tables.{edge}
-use Rattle.waits.specs.Events.{In, Within, Live, Path, last, step}
+use Rattle.waits.specs.Events.{In, Within, Live, Path, last, step, place, chosen}
 use Rattle.waits.proofs.Paths.{in-++}
 use Rattle.waits.proofs.Paths.{path-joined, path-over-more}
 use Rattle.planning.specs.Edges.{without}
-use Rattle.meaning.specs.Choices.{place, chosen}
 use Rattle.meaning.proofs.Covers.{Covers, covers-more, covers-own, covers-then}
 use Rattle.meaning.proofs.Chosen.{in-left, in-right, in-more, in-place, chosen-in, in-without, without-part}
 use Rattle.meaning.proofs.Twins.{twin-is-lower}

@@ -4,11 +4,10 @@ use mathlib.Core.List.{List, _++_}
 use Prim.Native.Nat.{ℕ, _<_}
 use lib.ListN.{length}
 use Rattle.records.specs.declared.tables.Edge.{Edge}
-use Rattle.waits.specs.Events.{Within, Live, Path, Enforces}
+use Rattle.waits.specs.Events.{Within, Live, Path, Enforces, place, chosen}
 use Rattle.waits.proofs.Enforced.{enforced-has-path}
 use Rattle.waits.proofs.Paths.{path-over-more}
 use Rattle.waits.proofs.Waits.{waits-along-path}
-use Rattle.meaning.specs.Choices.{place, chosen}
 use Rattle.meaning.proofs.Chosen.{in-left, in-right, in-more, in-place, chosen-part}
 use Rattle.meaning.proofs.Covers.{Covers}
 

@@ -10,11 +10,10 @@ use Rattle.std.proofs.shelf.Tests.{cases-bool, cond-true, cond-false}
 use Rattle.records.specs.declared.tables.Edge.{Edge}
 use Rattle.records.specs.Tables.{edge}
 use Rattle.waits.specs.Counting.{count}
-use Rattle.waits.specs.Events.{In, Path, last, step}
+use Rattle.waits.specs.Events.{In, Path, last, step, place, chosen}
 use Rattle.waits.proofs.Paths.{in-++}
 use Rattle.waits.proofs.Counting.{counting}
 use Rattle.planning.specs.Edges.{twins, without}
-use Rattle.meaning.specs.Choices.{place, chosen}
 use Rattle.meaning.proofs.Chosen.{stays, in-left, in-right, in-chosen, without-in}
 use Rattle.meaning.proofs.Twins.{twins-same, same-twins, lower-stays, gone-is-twin}
 use Rattle.meaning.proofs.Covers.{Covers, covers-own}

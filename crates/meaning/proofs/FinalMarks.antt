@@ -12,7 +12,7 @@ use Rattle.records.specs.Tables.{no-link, edge, link-edge}
 use Rattle.planning.specs.Marks.{mark-of, mark-link, marked, size-of, size-link}
 use Rattle.planning.specs.Planning.{Given, tables-check, back-links, all-links, plan-delays, plan-links}
 use Rattle.planning.proofs.Numbered.{length-numbered, numbered-at}
-use Rattle.meaning.specs.Choices.{place}
+use Rattle.waits.specs.Events.{place}
 use Rattle.meaning.proofs.BackEnds.{backs-fine}
 use Rattle.meaning.proofs.Drawn.{passed, base-small}
 use Rattle.meaning.proofs.Grounds.{known-tabled}

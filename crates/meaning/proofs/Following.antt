@@ -3,8 +3,7 @@ use mathlib.Core.List.{List, _++_}
 use mathlib.Core.Logic.{inl, inr}
 use Rattle.records.specs.declared.tables.Actor.{Actor}
 use Rattle.records.specs.declared.tables.Edge.{Edge}
-use Rattle.waits.specs.Drawings.{Follows, Enforced}
-use Rattle.waits.specs.Events.{Event, Lawful, Obeys-all, Enforces}
+use Rattle.waits.specs.Events.{Follows, Enforced, Event, Lawful, Obeys-all, Enforces}
 use Rattle.waits.proofs.Paths.{in-++}
 use Rattle.planning.specs.Edges.{orders}
 use Rattle.meaning.proofs.Chosen.{in-left, in-right}

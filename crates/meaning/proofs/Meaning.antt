@@ -15,8 +15,7 @@ use Rattle.records.specs.declared.tables.Edge.{Edge}
 use Rattle.records.specs.declared.tables.Link.{Link}
 use Rattle.records.specs.Tables.{no-link, edge, link-edge, processor-of}
 use Rattle.waits.specs.Counting.{count}
-use Rattle.waits.specs.Drawings.{Follows, Enforced}
-use Rattle.waits.specs.Events.{Event, starts, finishes, In, Lawful, Obeys, Obeys-all, Path, Live}
+use Rattle.waits.specs.Events.{Follows, Enforced, Event, starts, finishes, In, Lawful, Obeys, Obeys-all, Path, Live, place, chosen}
 use Rattle.waits.proofs.Paths.{in-++, path-over-more}
 use Rattle.paths.specs.Closure.{entry}
 use Rattle.paths.specs.Models.{delay-ops}
@@ -24,7 +23,6 @@ use Rattle.planning.specs.Backs.{backs-among, backs}
 use Rattle.planning.specs.Edges.{orders, without}
 use Rattle.planning.specs.Marks.{local, redundant, mark-of}
 use Rattle.planning.specs.Planning.{Given, tables-check, edges-with, ground, all-links, back-links, plan-delays}
-use Rattle.meaning.specs.Choices.{place, chosen}
 use Rattle.meaning.specs.Promises.{given-edges, plan-edges, mark-at, size-at, waited, waited-edges, Cross, Crossing, Replaced, Plan-means}
 use Rattle.meaning.specs.Components.{Reaches}
 use Rattle.meaning.proofs.Chosen.{in-left, in-right, in-more, in-place, chosen-part}

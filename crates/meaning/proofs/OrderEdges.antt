@@ -11,8 +11,7 @@ use Rattle.std.proofs.shelf.Tests.{cases-lt}
 use Rattle.records.specs.declared.tables.Actor.{Actor}
 use Rattle.records.specs.declared.tables.Edge.{Edge}
 use Rattle.records.specs.Tables.{edge, processor-of}
-use Rattle.waits.specs.Drawings.{Next, Round, Order}
-use Rattle.waits.specs.Events.{In}
+use Rattle.waits.specs.Events.{Next, Round, Order, In}
 use Rattle.planning.specs.Edges.{last-on, order-edge, orders}
 use Rattle.meaning.proofs.Rising.{map-has, counting-has}
 use Rattle.meaning.proofs.Turns.{Last, last-found, entered, from-before, from-last}

@@ -11,11 +11,10 @@ use Rattle.std.proofs.shelf.Tests.{cases-lt}
 use Rattle.records.specs.declared.tables.Edge.{Edge}
 use Rattle.records.specs.declared.tables.Link.{Link}
 use Rattle.records.specs.Tables.{no-link, edge, link-edge, processor-of}
-use Rattle.waits.specs.Events.{In, Path, Live}
+use Rattle.waits.specs.Events.{In, Path, Live, place}
 use Rattle.waits.proofs.Paths.{in-++}
 use Rattle.planning.specs.Edges.{orders, without}
 use Rattle.planning.specs.Planning.{Given, tables-check, cycles-check, base-edges, edges-with, ground, back-links, all-links}
-use Rattle.meaning.specs.Choices.{place}
 use Rattle.meaning.specs.Components.{Reaches, Joined, along, against, on, Back-links}
 use Rattle.meaning.specs.Promises.{given-edges, plan-edges, Backs-mean}
 use Rattle.meaning.proofs.BackEdges.{all-backs, back-edges, with-backs}

@@ -7,11 +7,10 @@ use Prim.Native.Nat.{ℕ, _<_, _≤_}
 use native.Mathlib.Omega.{arith}
 use Rattle.std.proofs.shelf.Tests.{cases-bool, cases-lt}
 use Rattle.records.specs.declared.tables.Edge.{Edge}
-use Rattle.waits.specs.Events.{In}
+use Rattle.waits.specs.Events.{In, place}
 use Rattle.waits.proofs.Paths.{in-++, path-over-more}
 use Rattle.planning.specs.Edges.{orders, without}
 use Rattle.planning.specs.Planning.{Given}
-use Rattle.meaning.specs.Choices.{place}
 use Rattle.meaning.specs.Promises.{plan-edges, Beside, Replaced}
 use Rattle.meaning.proofs.Chosen.{stays, in-left, in-right, in-without, without-in}
 use Rattle.meaning.proofs.Covers.{Covers}

@@ -1,4 +1,3 @@
-pub mod Choices
 pub mod Components
 pub mod Costing
 pub mod Promises

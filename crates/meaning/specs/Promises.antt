@@ -13,14 +13,12 @@ use Rattle.records.specs.declared.tables.Edge.{Edge}
 use Rattle.records.specs.Faults.{fault}
 use Rattle.records.specs.Tables.{no-link, link-edge, processor-of}
 use Rattle.waits.specs.Counting.{count}
-use Rattle.waits.specs.Drawings.{Order, Follows, Enforced}
-use Rattle.waits.specs.Events.{Event, starts, finishes, In, Path, Live}
+use Rattle.waits.specs.Events.{Order, Follows, Enforced, Event, starts, finishes, In, Path, Live, place, chosen}
 use Rattle.waits.specs.Walks.{Short}
 use Rattle.paths.specs.Closure.{entry}
 use Rattle.paths.specs.Models.{delay-ops}
 use Rattle.planning.specs.Edges.{orders}
 use Rattle.planning.specs.Planning.{Given, Totals, over, base-edges, edges-with, all-links, back-links, plan-delays, plan-links, tables-check, planned}
-use Rattle.meaning.specs.Choices.{place, chosen}
 use Rattle.meaning.specs.Components.{Reaches, Joined, Back-links}
 use Rattle.meaning.specs.Costing.{Costs}
 

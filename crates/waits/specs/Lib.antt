@@ -1,4 +1,3 @@
 pub mod Counting
 pub mod Events
 pub mod Walks
-pub mod Drawings
