@@ -1,4 +1,6 @@
 // Compares the library with the listings of a second program, case by case, and prints how many agree.
+#![tactic(auto)]
+
 mod blocks;
 mod trial;
 

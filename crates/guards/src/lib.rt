@@ -1,4 +1,6 @@
 // Guards: how many values wait on a link, and how many there can be.
+#![tactic(auto)]
+
 mod counter;
 mod guard;
 mod limit;

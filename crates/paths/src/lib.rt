@@ -1,4 +1,6 @@
 // Path algebras, and the closure of a table of edges over any of them.
+#![tactic(auto)]
+
 mod algebra;
 mod closure;
 mod delay;

@@ -1,4 +1,6 @@
 // Planning: from the tables of a drawing to its plan.
+#![tactic(auto)]
+
 mod backs;
 mod checks;
 mod costs;

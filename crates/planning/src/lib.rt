@@ -1,4 +1,5 @@
 // What planning means: definitions only. The code that meets them is in the crate `planner`.
+#![tactic(auto)]
 
 /// How the edges of a drawing are seen.
 #[derive(Clone, Copy, PartialEq, Eq, Debug)]

@@ -1,4 +1,6 @@
 // Reads a drawing's text into the tables of its caller.
+#![tactic(auto)]
+
 mod check;
 mod fill;
 mod line;

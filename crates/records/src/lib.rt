@@ -1,4 +1,6 @@
 // The records that every stage shares: what a drawing is made of, and how one is refused.
+#![tactic(auto)]
+
 mod fault;
 mod tables;
 

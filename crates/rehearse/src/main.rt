@@ -1,4 +1,6 @@
 // Rehearses the drawing on standard input: makes the calls that follow it in a run of its plan, and prints the answers.
+#![tactic(auto)]
+
 mod answer;
 mod call;
 mod calls;

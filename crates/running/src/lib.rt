@@ -1,4 +1,6 @@
 // What a run means: its records, and definitions about them. The code that meets them is in the crate `runs`.
+#![tactic(auto)]
+
 use records::Fault;
 
 /// What an actor is doing.

@@ -1,4 +1,6 @@
 // Runs: a plan carried out, with a guard at each kept and back link.
+#![tactic(auto)]
+
 mod checks;
 mod entries;
 mod faults;

@@ -1,4 +1,6 @@
 // Compares runs with those of a second program, call by call, and prints how many agree.
+#![tactic(auto)]
+
 mod calls;
 mod levels;
 mod stored;

@@ -1,1 +1,2 @@
 // Self-timed execution of actors and the waits between them: definitions and theorems, no functions.
+#![tactic(auto)]

@@ -1,4 +1,6 @@
 // The words in which the steps of a run, and refusals, are told.
+#![tactic(auto)]
+
 mod faults;
 mod steps;
 

@@ -1,4 +1,6 @@
 // The worked examples, shown of the definitions.
+#![tactic(auto)]
+
 ghost use Rattle.std.specs.Prelude.{◌≡◌, length};
 ghost use Rattle.worked.specs.Examples.{examples, Hold};
 ghost use Rattle.worked.specs.Answered.{worked_calls, Answers};
