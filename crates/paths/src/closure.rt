@@ -13,8 +13,8 @@ fn relax_row<T: Algebra>(cells: &mut [T], n: usize, row: usize, via: usize, k: u
     requires via_within { via + n ≤ length cells.old }
     requires below { k < n }
     requires apart { (row ≡ via) ⊎ ((row + n ≤ via) ⊎ (via + n ≤ row)) }
-    ensures done { (q : ℕ) → q < n → slice_index_or cells.new (row + q) ops.none ≡ ops.choose (slice_index_or cells.old (row + q) ops.none) (ops.follow (slice_index_or cells.old (row + k) ops.none) (slice_index_or cells.old (via + q) ops.none)) }
-    ensures rest { (p : ℕ) → (p < row) ⊎ (row + n ≤ p) → slice_index_or cells.new p ops.none ≡ slice_index_or cells.old p ops.none }
+    ensures done { (q : ℕ) → q < n → slice_index_or cells.new (row + q) T.ops.none ≡ T.ops.choose (slice_index_or cells.old (row + q) T.ops.none) (T.ops.follow (slice_index_or cells.old (row + k) T.ops.none) (slice_index_or cells.old (via + q) T.ops.none)) }
+    ensures rest { (p : ℕ) → (p < row) ⊎ (row + n ≤ p) → slice_index_or cells.new p T.ops.none ≡ slice_index_or cells.old p T.ops.none }
 {
     let through = cells[row + k];
     for j in 0..n {
@@ -27,7 +27,7 @@ fn relax_row<T: Algebra>(cells: &mut [T], n: usize, row: usize, via: usize, k: u
 fn relax_all<T: Algebra>(cells: &mut [T], n: usize, k: usize)
     requires within { n * n ≤ length cells.old }
     requires below { k < n }
-    ensures { cells.new ≡ round ops n k cells.old }
+    ensures { cells.new ≡ round T.ops n k cells.old }
 {
     let via = k * n;
     for i in 0..n {
@@ -41,8 +41,8 @@ fn relax_all<T: Algebra>(cells: &mut [T], n: usize, k: usize)
 pub fn close<T: Algebra>(cells: &mut [T], n: usize) -> Result<(), Fault>
     ensures answer { result ≡ close_answer n (length cells.old) }
     ensures view { told (λ _. []) result ≡ told (λ _. []) (close_answer n (length cells.old)) }
-    ensures table { cells.new ≡ close_table ops n cells.old }
-    ensures paths { nat_le (n * n) (length cells.old) ≡ true → (u v : ℕ) → u < n → v < n → Chosen ops (entry ops cells.old n) n u v (entry ops cells.new n u v) }
+    ensures table { cells.new ≡ close_table T.ops n cells.old }
+    ensures paths { nat_le (n * n) (length cells.old) ≡ true → (u v : ℕ) → u < n → v < n → Chosen T.ops (entry T.ops cells.old n) n u v (entry T.ops cells.new n u v) }
 {
     let Some(count) = n.checked_mul(n) else {
         return Err(Fault {

@@ -9,7 +9,7 @@ unfolding rounds
 loop-k-init g c = refl
 
 pub loop-k-preserved : goal.loop-k-preserved
-loop-k-preserved g c = rw (rounds_more, ← c.loop-k.invariant) c.relax-all.ensures
+loop-k-preserved g c = rw (rounds_more, ← c.loop-k.invariant) c.relax_all.ensures
 
 pub returns : goal.returns
 returns g c =

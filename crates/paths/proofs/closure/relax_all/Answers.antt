@@ -3,23 +3,23 @@ use Rattle.paths.proofs.Rows.{row_before, rows_apart}
 use Rattle.paths.proofs.Rounds.{rows_more, rows_all}
 use Rattle.paths.proofs.closure.relax_all.Goals as goal
 
-pub overflow-mul-via : goal.overflow-mul-via
-overflow-mul-via g c = omega (arith, row_before c.args.k c.args.n c.args.n c.requires.below)
+pub overflow_mul-via : goal.overflow_mul-via
+overflow_mul-via g c = omega (arith, row_before c.args.k c.args.n c.args.n c.requires.below)
 
-pub overflow-mul-row : goal.overflow-mul-row
-overflow-mul-row g c = omega (arith, row_before c.loop-i.i c.args.n c.args.n c.loop-i-test.true)
+pub overflow_mul-row : goal.overflow_mul-row
+overflow_mul-row g c = omega (arith, row_before c.loop-i.i c.args.n c.args.n c.loop-i-test.true)
 
-pub relax-row-requires : goal.relax-row-requires
-relax-row-requires g c = record {
+pub relax_row-requires : goal.relax_row-requires
+relax_row-requires g c = record {
   row_within = omega (arith, row_before c.loop-i.i c.args.n c.args.n c.loop-i-test.true);
-  via-within = omega (arith, row_before c.args.k c.args.n c.args.n c.requires.below);
+  via_within = omega (arith, row_before c.args.k c.args.n c.args.n c.requires.below);
   below = c.requires.below;
   apart = rows_apart c.loop-i.i c.args.k c.args.n;
 }
 
 pub loop-i-preserved : goal.loop-i-preserved
 loop-i-preserved g c =
-    rows_more g.T.Algebra.laws _ _ _ _ _ _ c.requires.below c.loop-i.invariant c.relax-row.ensures.done c.relax-row.ensures.rest
+    rows_more g.T.Algebra.laws _ _ _ _ _ _ c.requires.below c.loop-i.invariant c.relax_row.ensures.done c.relax_row.ensures.rest
 
 pub returns : goal.returns
 returns g c =

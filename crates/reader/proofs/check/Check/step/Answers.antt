@@ -3,17 +3,17 @@ use Rattle.std.proofs.Common.{rules}
 use Rattle.reader.specs.Reading.{check_step}
 use Rattle.reader.proofs.check.Check.step.Goals as goal
 
-pub returns-in-err-entry : goal.returns-in-err-entry
+pub returns-in_err-entry-in-Numbers : goal.returns-in_err-entry-in-Numbers
 unfolding check_step
-returns-in-err-entry c = search rules
+returns-in_err-entry-in-Numbers c = search rules
 
 pub returns-in-Shape : goal.returns-in-Shape
 unfolding check_step
 returns-in-Shape c = search rules
 
-pub returns-in-ok-entry : goal.returns-in-ok-entry
+pub returns-in_ok-entry-in-Numbers : goal.returns-in_ok-entry-in-Numbers
 unfolding check_step
-returns-in-ok-entry c = search rules
+returns-in_ok-entry-in-Numbers c = search rules
 
 pub returns-in-Order : goal.returns-in-Order
 unfolding check_step

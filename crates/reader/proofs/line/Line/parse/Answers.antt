@@ -10,27 +10,27 @@ pub returns-then-n-lt3 : goal.returns-then-n-lt3
 unfolding line_of
 returns-then-n-lt3 c =
     let e : framed c.args.raw.now ≡ false = grind (arith, nat_tests) in
-    ap Err c.at-line.ensures ∙ sym (cond-false _ _ _ e)
+    ap Err c.at_line.ensures ∙ sym (cond-false _ _ _ e)
 
 pub returns-in-R : goal.returns-in-R
 returns-in-R c =
     let f : framed c.args.raw.now ≡ true = grind (arith, nat_tests) in
-    c.lead-line.ensures ∙ sym (line_lead _ c.args.raw.now f (omega arith))
+    c.lead_line.ensures ∙ sym (line_lead _ c.args.raw.now f (omega arith))
 
 pub returns-in-A : goal.returns-in-A
 returns-in-A c =
     let f : framed c.args.raw.now ≡ true = grind (arith, nat_tests) in
-    c.actor-line.ensures ∙ sym (line_actor _ c.args.raw.now f (omega arith))
+    c.actor_line.ensures ∙ sym (line_actor _ c.args.raw.now f (omega arith))
 
 pub returns-in-L : goal.returns-in-L
 returns-in-L c =
     let f : framed c.args.raw.now ≡ true = grind (arith, nat_tests) in
     c.link_line.ensures ∙ sym (line_link _ c.args.raw.now f (omega arith))
 
-pub returns-in-default : goal.returns-in-default
-returns-in-default c =
+pub returns-in_default : goal.returns-in_default
+returns-in_default c =
     let f : framed c.args.raw.now ≡ true = grind (arith, nat_tests) in
     let r : eqb (get_or c.args.raw.now 0 0) 82 ≡ false = grind (arith, nat_tests) in
     let a : eqb (get_or c.args.raw.now 0 0) 65 ≡ false = grind (arith, nat_tests) in
     let l : eqb (get_or c.args.raw.now 0 0) 76 ≡ false = grind (arith, nat_tests) in
-    ap Err c.at-line-in-default.ensures ∙ sym (line_other _ c.args.raw.now f r a l)
+    ap Err c.at_line-in_default.ensures ∙ sym (line_other _ c.args.raw.now f r a l)
