@@ -19,7 +19,8 @@ KEYWORDS = r"(?:(?:abbrev|unfoldable|pub|data|record|mutual)\s+)*"
 
 # Words that today's language keeps for tactics.
 TACTICS = {"first_of": "first_or", "last_of": "last_or"}
-TACTIC_PLACES = ("planning/", "planner/", "meaning/proofs/BackLinks", "meaning/proofs/Rising", "meaning/proofs/Told")
+TACTIC_PLACES = ("planning/", "planner/", "meaning/proofs/BackLinks", "meaning/proofs/Rising", "meaning/proofs/Told",
+                 "meaning/proofs/BacksNeeded", "meaning/proofs/BacksWhole")
 LEMMA_PLACE = "meaning/proofs/Turns"
 
 

@@ -9,7 +9,7 @@ use Rattle.waits.specs.Events.{In, Within, Path, last, step}
 use Rattle.waits.proofs.Paths.{in-++}
 use Rattle.planning.specs.declared.End.{End}
 use Rattle.planning.specs.declared.End.TheVariants.{Entry, Exit}
-use Rattle.planning.specs.Backs.{Ground, count, stand, groups_of, back_link, closing, first_of, last_of}
+use Rattle.planning.specs.Backs.{Ground, count, stand, groups_of, back_link, closing, first_or, last_or}
 use Rattle.meaning.specs.Components.{Reaches, Group, Joined, on as joined-on}
 use Rattle.meaning.proofs.Known.{Known}
 use Rattle.meaning.proofs.Joins.{reaches_joins, joined_back}
@@ -79,7 +79,7 @@ module _ {g : Ground} {es : List Edge} (known : Known g es) (lead : ℕ) where
 
   -- the back links into the group of an entry head
   into_entry : (p h : ℕ) → Wants g es p → Head g es Entry p h → (b : Link) → Told tabled lead p b → Group es h b.receiver
-      → ((u : ℕ) × Next u h (groups_of g Entry p) × (b ≡ back_link (stand g u) (stand g h) 0)) ⊎ ((h ≡ first_of p (groups_of g Entry p)) × (b ≡ closing g lead p))
+      → ((u : ℕ) × Next u h (groups_of g Entry p) × (b ≡ back_link (stand g u) (stand g h) 0)) ⊎ ((h ≡ first_or p (groups_of g Entry p)) × (b ≡ closing g lead p))
   into_entry p h s k _ (enters u w n hu hw l) m =
       let e = sym (heads_same tabled k hw m) in
       inl (u, subst (λ x. Next u x (groups_of g Entry p)) e n, ap (λ x. back_link (stand g u) (stand g x) 0) e)
@@ -90,7 +90,7 @@ module _ {g : Ground} {es : List Edge} (known : Known g es) (lead : ℕ) where
 
   -- the back links out of the group of an exit head
   out_of_exit : (p h : ℕ) → Wants g es p → Head g es Exit p h → (b : Link) → Told tabled lead p b → Group es h b.sender
-      → ((w : ℕ) × Next h w (groups_of g Exit p) × (b ≡ back_link (stand g h) (stand g w) 0)) ⊎ ((h ≡ last_of p (groups_of g Exit p)) × (b ≡ closing g lead p))
+      → ((w : ℕ) × Next h w (groups_of g Exit p) × (b ≡ back_link (stand g h) (stand g w) 0)) ⊎ ((h ≡ last_or p (groups_of g Exit p)) × (b ≡ closing g lead p))
   out_of_exit p h s k _ (enters u w n hu hw l) m =
       let e = sym (heads_same tabled k hu m) in
       absurd (ends_apart tabled p h s k.under k.joined (subst (λ x. Ends es Entry x) e hu.ends) k.ends)
@@ -164,22 +164,22 @@ module _ {g : Ground} {es : List Edge} (known : Known g es) (lead : ℕ) where
   cut p hp s _ (closes hu hw) =
       record {
         end = Entry;
-        head = first_of p (groups_of g Entry p);
+        head = first_or p (groups_of g Entry p);
         under = hw.under;
         ends = hw.ends;
         start = λ m.
             let e = heads_same tabled hw hu m in
-            ends_apart tabled p (first_of p (groups_of g Entry p)) s hw.under hw.joined hw.ends (subst (λ x. Ends es Exit x) (sym e) hu.ends);
+            ends_apart tabled p (first_or p (groups_of g Entry p)) s hw.under hw.joined hw.ends (subst (λ x. Ends es Exit x) (sym e) hu.ends);
         stop = stand_mate tabled hw;
-        only = only_into p (first_of p (groups_of g Entry p)) hp s (closing g lead p) hw one;
+        only = only_into p (first_or p (groups_of g Entry p)) hp s (closing g lead p) hw one;
       }
     where
-      one : (c : Link) → Told tabled lead p c → Group es (first_of p (groups_of g Entry p)) c.receiver → c ≡ closing g lead p
-      one c t m = elim (into_entry p (first_of p (groups_of g Entry p)) s hw c t m) [
+      one : (c : Link) → Told tabled lead p c → Group es (first_or p (groups_of g Entry p)) c.receiver → c ≡ closing g lead p
+      one c t m = elim (into_entry p (first_or p (groups_of g Entry p)) s hw c t m) [
         | inl (v, k, e) ↦ absurd (omega (
           arith,
-          next_rises v (first_of p (groups_of g Entry p)) (groups_of g Entry p) (groups_rising tabled Entry p hp) k,
-          first_lowest p v (groups_of g Entry p) (groups_rising tabled Entry p hp) (next_has v (first_of p (groups_of g Entry p)) (groups_of g Entry p) k).0,
+          next_rises v (first_or p (groups_of g Entry p)) (groups_of g Entry p) (groups_rising tabled Entry p hp) k,
+          first_lowest p v (groups_of g Entry p) (groups_rising tabled Entry p hp) (next_has v (first_or p (groups_of g Entry p)) (groups_of g Entry p) k).0,
         ))
         | inr (e, q) ↦ q
       ]

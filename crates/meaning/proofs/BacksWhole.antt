@@ -9,7 +9,7 @@ use Rattle.waits.proofs.Paths.{path_over_more}
 use Rattle.planning.specs.declared.End.{End}
 use Rattle.planning.specs.declared.End.TheVariants.{Entry, Exit}
 use Rattle.planning.specs.Groups.{same_part}
-use Rattle.planning.specs.Backs.{Ground, count, stand, groups_of, backs_among, back_link, closing, first_of, last_of, wants_backs}
+use Rattle.planning.specs.Backs.{Ground, count, stand, groups_of, backs_among, back_link, closing, first_or, last_or, wants_backs}
 use Rattle.meaning.specs.Components.{Reaches, Joined, on as joined-on}
 use Rattle.meaning.proofs.Known.{Known}
 use Rattle.meaning.proofs.Joins.{joined_back}
@@ -26,16 +26,16 @@ use Rattle.meaning.proofs.Chosen.{in_left, in_right}
 
 -- where each of us is related to itself and to the next one
 module _ (R : ℕ → ℕ → Type 0) (goes : (u w v : ℕ) → R u w → R w v → R u v) where
-  to_last : (p : ℕ) (us : List ℕ) → ((u : ℕ) → Has u us → R u u) → ((u w : ℕ) → Next u w us → R u w) → (u : ℕ) → Has u us → R u (last_of p us)
+  to_last : (p : ℕ) (us : List ℕ) → ((u : ℕ) → Has u us → R u u) → ((u w : ℕ) → Next u w us → R u w) → (u : ℕ) → Has u us → R u (last_or p us)
   to_last p [] same next u h = absurd h
   to_last p (x ∷ []) same next u (inl e) = subst (λ y. R y x) (sym e) (same x (inl refl))
   to_last p (x ∷ []) same next u (inr h) = absurd h
   to_last p (x ∷ y ∷ us) same next u (inl e) =
-      subst (λ z. R z (last_of x (y ∷ us))) (sym e)
-      (goes x y (last_of x (y ∷ us)) (next x y (inl (refl, refl))) (to_last x (y ∷ us) (λ u h. same u (inr h)) (λ u w h. next u w (inr h)) y (inl refl)))
+      subst (λ z. R z (last_or x (y ∷ us))) (sym e)
+      (goes x y (last_or x (y ∷ us)) (next x y (inl (refl, refl))) (to_last x (y ∷ us) (λ u h. same u (inr h)) (λ u w h. next u w (inr h)) y (inl refl)))
   to_last p (x ∷ y ∷ us) same next u (inr h) = to_last x (y ∷ us) (λ u h. same u (inr h)) (λ u w h. next u w (inr h)) u h
 
-  from_first : (p : ℕ) (us : List ℕ) → ((u : ℕ) → Has u us → R u u) → ((u w : ℕ) → Next u w us → R u w) → (u : ℕ) → Has u us → R (first_of p us) u
+  from_first : (p : ℕ) (us : List ℕ) → ((u : ℕ) → Has u us → R u u) → ((u w : ℕ) → Next u w us → R u w) → (u : ℕ) → Has u us → R (first_or p us) u
   from_first p [] same next u h = absurd h
   from_first p (x ∷ us) same next u (inl e) = subst (λ y. R x y) (sym e) (same x (inl refl))
   from_first p (x ∷ []) same next u (inr h) = absurd h
@@ -75,10 +75,10 @@ module _ {g : Ground} {es : List Edge} (known : Known g es) (lead : ℕ) where
         let (x, hx, out) = to_head tabled Exit p u hu ju in
         let (y, hy, into) = to_head tabled Entry p v hv jv in
         let a : Reaches (with_backs g lead es) u (stand g x) = reaches_more (reaches_on out (stand_mate tabled hx).0) in
-        let b : Stands x (last_of p (groups_of g Exit p)) =
+        let b : Stands x (last_or p (groups_of g Exit p)) =
         to_last Stands (λ u w v a b. reaches_on a b) p (groups_of g Exit p) (stands_same Exit) (stands_next Exit) x (head_groups tabled Exit p hp x hx) in
-        let c : Stands (last_of p (groups_of g Exit p)) (first_of p (groups_of g Entry p)) = kind_reaches (closing g lead p) (inr (inr refl)) in
-        let d : Stands (first_of p (groups_of g Entry p)) y =
+        let c : Stands (last_or p (groups_of g Exit p)) (first_or p (groups_of g Entry p)) = kind_reaches (closing g lead p) (inr (inr refl)) in
+        let d : Stands (first_or p (groups_of g Entry p)) y =
         from_first Stands (λ u w v a b. reaches_on a b) p (groups_of g Entry p) (stands_same Entry) (stands_next Entry) y (head_groups tabled Entry p hp y hy) in
         let f : Reaches (with_backs g lead es) (stand g y) v = reaches_more (reaches_on (stand_mate tabled hy).1 into) in
         reaches_on a (reaches_on b (reaches_on c (reaches_on d f)))
