@@ -85,7 +85,7 @@ def changed_line(line, names, path):
         if in_folder and before.endswith("goal."):
             continue
         new = names.get(word, word)
-        if new == "ground" and not re.search(r"[.:]$", before):
+        if new == "ground" and path.endswith(".antt") and not re.search(r"[.:]$", before):
             new = "plan_ground"
         if word in TACTICS and any(place in path for place in TACTIC_PLACES):
             new = TACTICS[word]

@@ -9,28 +9,28 @@ use crate::marks::is_local;
 use records::Link;
 
 // 4 for a cross link between two groups, 2 for one within a group.
-fn link_cost_before(ground: &Ground, link: Link) -> u32
-    requires { (link.sender < length plan_ground.now.actors.now) × (link.receiver < length plan_ground.now.actors.now) }
-    ensures value { result ≡ link_cost_before plan_ground.now.actors.now (length plan_ground.now.actors.now) plan_ground.now.delays.now link }
+fn link_cost_before(basis: &Ground, link: Link) -> u32
+    requires { (link.sender < length basis.now.actors.now) × (link.receiver < length basis.now.actors.now) }
+    ensures value { result ≡ link_cost_before basis.now.actors.now (length basis.now.actors.now) basis.now.delays.now link }
     ensures bound { result ≤ 4 }
 {
-    if is_local(ground.actors, edge_of(link)) {
+    if is_local(basis.actors, edge_of(link)) {
         return 0;
     }
-    if ground.same_group(link.sender as usize, link.receiver as usize) {
+    if basis.same_group(link.sender as usize, link.receiver as usize) {
         return 2;
     }
     4
 }
 
-pub(crate) fn cost_before(ground: &Ground, links: &[Link]) -> u32
+pub(crate) fn cost_before(basis: &Ground, links: &[Link]) -> u32
     requires few { length links.now ≤ 256 }
-    requires ends { EndsBelow (length plan_ground.now.actors.now) links.now }
-    ensures { result ≡ cost_before plan_ground.now.actors.now (length plan_ground.now.actors.now) plan_ground.now.delays.now links.now }
+    requires ends { EndsBelow (length basis.now.actors.now) links.now }
+    ensures { result ≡ cost_before basis.now.actors.now (length basis.now.actors.now) basis.now.delays.now links.now }
 {
     let mut cost = 0;
     for i in 0..links.len() {
-        cost += link_cost_before(ground, links[i]);
+        cost += link_cost_before(basis, links[i]);
     }
     cost
 }

@@ -13,7 +13,7 @@ use records::{Actor, Edge, Link};
 // No path anywhere in the first `count` cells.
 fn clear<T: Algebra>(cells: &mut [T], count: usize)
     requires { count ≤ length cells.old }
-    ensures { cells.new ≡ replicate count ops.none ++ drop count cells.old }
+    ensures { cells.new ≡ replicate count T.ops.none ++ drop count cells.old }
 {
     for i in 0..count {
         cells[i] = T::none();
@@ -35,7 +35,7 @@ fn lay_edge<T: Algebra>(cells: &mut [T], n: usize, edge: Edge)
     requires few { n ≤ 64 }
     requires room { n * n ≤ length cells.old }
     requires ends { (edge.sender < n) × (edge.receiver < n) }
-    ensures { cells.new ≡ lay ops n cells.old edge }
+    ensures { cells.new ≡ lay T.ops n cells.old edge }
 {
     let at = place(n, edge.sender, edge.receiver);
     cells[at] = cells[at].choose(T::edge(edge.delay));
@@ -45,7 +45,7 @@ fn lay_seen<T: Algebra>(cells: &mut [T], sight: Sight, n: usize, edge: Edge)
     requires few { n ≤ 64 }
     requires room { n * n ≤ length cells.old }
     requires ends { (edge.sender < n) × (edge.receiver < n) }
-    ensures { cells.new ≡ lay_seen sight ops n cells.old edge }
+    ensures { cells.new ≡ lay_seen sight T.ops n cells.old edge }
 {
     match sight {
         Sight::Directed => lay_edge(cells, n, edge),
@@ -75,7 +75,7 @@ fn lay_seen<T: Algebra>(cells: &mut [T], sight: Sight, n: usize, edge: Edge)
 fn lay_orders<T: Algebra>(cells: &mut [T], sight: Sight, actors: &[Actor])
     requires few { length actors.now ≤ 64 }
     requires room { length actors.now * length actors.now ≤ length cells.old }
-    ensures { cells.new ≡ laid sight ops (length actors.now) cells.old (orders actors.now) }
+    ensures { cells.new ≡ laid sight T.ops (length actors.now) cells.old (orders actors.now) }
 {
     let n = actors.len();
     for v in 0..n {
@@ -103,7 +103,7 @@ fn lay_links<T: Algebra>(
     requires few { n ≤ 64 }
     requires room { n * n ≤ length cells.old }
     requires ends { EndsBelow n links.now }
-    ensures { cells.new ≡ laid sight ops n cells.old (without skip like 0 (map link_edge links.now)) }
+    ensures { cells.new ≡ laid sight T.ops n cells.old (without skip like 0 (map link_edge links.now)) }
 {
     for j in 0..links.len() {
         let edge = edge_of(links[j]);
@@ -126,7 +126,7 @@ pub(crate) fn fill_without<T: Algebra>(
     requires few { length actors.now ≤ 64 }
     requires room { length actors.now * length actors.now ≤ length cells.old }
     requires ends { EndsBelow (length actors.now) links.now }
-    ensures { cells.new ≡ paths_over sight ops (length actors.now) (orders actors.now ++ without skip like 0 (map link_edge links.now)) ++ drop (length actors.now * length actors.now) cells.old }
+    ensures { cells.new ≡ paths_over sight T.ops (length actors.now) (orders actors.now ++ without skip like 0 (map link_edge links.now)) ++ drop (length actors.now * length actors.now) cells.old }
 {
     let n = actors.len();
     clear(cells, n * n);
@@ -141,7 +141,7 @@ pub(crate) fn fill<T: Algebra>(cells: &mut [T], sight: Sight, actors: &[Actor], 
     requires few { length actors.now ≤ 64 }
     requires room { length actors.now * length actors.now ≤ length cells.old }
     requires ends { EndsBelow (length actors.now) links.now }
-    ensures { cells.new ≡ paths_over sight ops (length actors.now) (orders actors.now ++ map link_edge links.now) ++ drop (length actors.now * length actors.now) cells.old }
+    ensures { cells.new ≡ paths_over sight T.ops (length actors.now) (orders actors.now ++ map link_edge links.now) ++ drop (length actors.now * length actors.now) cells.old }
 {
     fill_without(
         cells,

@@ -5,15 +5,15 @@ use Rattle.planning.specs.Checks.{bad_actor}
 use Rattle.planner.proofs.Refusing.{refuse_here, refuse_later, refuse_none}
 use Rattle.planner.proofs.checks.check_actors.Goals as goal
 
-pub returns-then-is-bad-actor : goal.returns-then-is-bad-actor
-returns-then-is-bad-actor c =
-    ap Err c.table-fault.ensures
-    ∙ sym (refuse_here bad_actor 9 Table c.args.actors.now c.loop-i.i no_actor c.loop-i-test.true (sym c.is-bad-actor.ensures ∙ c.if-is-bad-actor.true))
+pub returns-then-is_bad_actor : goal.returns-then-is_bad_actor
+returns-then-is_bad_actor c =
+    ap Err c.table_fault.ensures
+    ∙ sym (refuse_here bad_actor 9 Table c.args.actors.now c.loop-i.i no_actor c.loop-i-test.true (sym c.is_bad_actor.ensures ∙ c.if-is_bad_actor.true))
     ∙ c.loop-i.invariant
 
 pub loop-i-preserved : goal.loop-i-preserved
 loop-i-preserved c =
-    sym (refuse_later bad_actor 9 Table c.args.actors.now c.loop-i.i no_actor c.loop-i-test.true (sym c.is-bad-actor.ensures ∙ c.if-is-bad-actor.false))
+    sym (refuse_later bad_actor 9 Table c.args.actors.now c.loop-i.i no_actor c.loop-i-test.true (sym c.is_bad_actor.ensures ∙ c.if-is_bad_actor.false))
     ∙ c.loop-i.invariant
 
 pub returns : goal.returns

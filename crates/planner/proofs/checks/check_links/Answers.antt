@@ -5,15 +5,15 @@ use Rattle.planning.specs.Checks.{bad_link}
 use Rattle.planner.proofs.Refusing.{refuse_here, refuse_later, refuse_none}
 use Rattle.planner.proofs.checks.check_links.Goals as goal
 
-pub returns-then-is-bad-link : goal.returns-then-is-bad-link
-returns-then-is-bad-link c =
-    ap Err c.table-fault.ensures
-    ∙ sym (refuse_here (bad_link c.args.n) 10 Table c.args.links.now c.loop-i.i no_link c.loop-i-test.true (sym c.is-bad-link.ensures ∙ c.if-is-bad-link.true))
+pub returns-then-is_bad_link : goal.returns-then-is_bad_link
+returns-then-is_bad_link c =
+    ap Err c.table_fault.ensures
+    ∙ sym (refuse_here (bad_link c.args.n) 10 Table c.args.links.now c.loop-i.i no_link c.loop-i-test.true (sym c.is_bad_link.ensures ∙ c.if-is_bad_link.true))
     ∙ c.loop-i.invariant
 
 pub loop-i-preserved : goal.loop-i-preserved
 loop-i-preserved c =
-    sym (refuse_later (bad_link c.args.n) 10 Table c.args.links.now c.loop-i.i no_link c.loop-i-test.true (sym c.is-bad-link.ensures ∙ c.if-is-bad-link.false))
+    sym (refuse_later (bad_link c.args.n) 10 Table c.args.links.now c.loop-i.i no_link c.loop-i-test.true (sym c.is_bad_link.ensures ∙ c.if-is_bad_link.false))
     ∙ c.loop-i.invariant
 
 pub returns : goal.returns

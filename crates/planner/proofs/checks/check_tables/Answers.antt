@@ -7,25 +7,25 @@ use Rattle.planner.proofs.Exits.{stops, goes_on}
 use Rattle.planner.proofs.Soundness.{sound, made_sound}
 use Rattle.planner.proofs.checks.check_tables.Goals as goal
 
-pub returns-in-err-check-counts : goal.returns-in-err-check-counts
+pub returns-in_err-check_counts : goal.returns-in_err-check_counts
 unfolding check_tables
-returns-in-err-check-counts c =
+returns-in_err-check_counts c =
     let actors = c.args.actors.now in
     let links = c.args.links.now in
-    let p = err_from_is_err_and c.from-residual.result c.from-residual.ensures.1 in
-    let answer : c.from-residual.result ≡ check_tables actors links c.args.given c.args.lead c.args.delays c.args.reach =
-    stops (check_counts (length actors) c.args.given (length links) c.args.lead c.args.delays c.args.reach) _ _ _ (p.1 ∙ ap Err p.2) c.in-err-check-counts.ensures in
+    let p = err_from_is_err_and c.from_residual.result c.from_residual.ensures.1 in
+    let answer : c.from_residual.result ≡ check_tables actors links c.args.given c.args.lead c.args.delays c.args.reach =
+    stops (check_counts (length actors) c.args.given (length links) c.args.lead c.args.delays c.args.reach) _ _ _ (p.1 ∙ ap Err p.2) c.in_err-check_counts.ensures in
     record { answer = answer; sound = made_sound _ _ (λ e. sound actors links c.args.given c.args.lead c.args.delays c.args.reach (sym answer ∙ e)) }
 
-pub returns-in-err-check-actors : goal.returns-in-err-check-actors
+pub returns-in_err-check_actors : goal.returns-in_err-check_actors
 unfolding check_tables
-returns-in-err-check-actors c =
+returns-in_err-check_actors c =
     let actors = c.args.actors.now in
     let links = c.args.links.now in
-    let p = err_from_is_err_and c.from-residual-in-err-check-actors.result c.from-residual-in-err-check-actors.ensures.1 in
-    let answer : c.from-residual-in-err-check-actors.result ≡ check_tables actors links c.args.given c.args.lead c.args.delays c.args.reach =
-    goes_on (check_counts (length actors) c.args.given (length links) c.args.lead c.args.delays c.args.reach) _ _ c.in-ok-check-counts.ensures
-    (stops (refuse_first bad_actor 9 Table 0 actors) _ _ _ (p.1 ∙ ap Err p.2) c.in-err-check-actors.ensures) in
+    let p = err_from_is_err_and c.from_residual-in_err-check_actors.result c.from_residual-in_err-check_actors.ensures.1 in
+    let answer : c.from_residual-in_err-check_actors.result ≡ check_tables actors links c.args.given c.args.lead c.args.delays c.args.reach =
+    goes_on (check_counts (length actors) c.args.given (length links) c.args.lead c.args.delays c.args.reach) _ _ c.in_ok-check_counts.ensures
+    (stops (refuse_first bad_actor 9 Table 0 actors) _ _ _ (p.1 ∙ ap Err p.2) c.in_err-check_actors.ensures) in
     record { answer = answer; sound = made_sound _ _ (λ e. sound actors links c.args.given c.args.lead c.args.delays c.args.reach (sym answer ∙ e)) }
 
 pub returns : goal.returns
@@ -33,8 +33,8 @@ unfolding check_tables
 returns c =
     let actors = c.args.actors.now in
     let links = c.args.links.now in
-    let answer : c.check-links.result ≡ check_tables actors links c.args.given c.args.lead c.args.delays c.args.reach =
-    goes_on (check_counts (length actors) c.args.given (length links) c.args.lead c.args.delays c.args.reach) _ _ c.in-ok-check-counts.ensures
-    (goes_on (refuse_first bad_actor 9 Table 0 actors) _ _ c.in-ok-check-actors.ensures
-    (c.check-links.ensures ∙ ap (λ k. refuse_first (bad_link (length actors)) 10 Table 0 (take k links)) (sub-zero c.args.given))) in
+    let answer : c.check_links.result ≡ check_tables actors links c.args.given c.args.lead c.args.delays c.args.reach =
+    goes_on (check_counts (length actors) c.args.given (length links) c.args.lead c.args.delays c.args.reach) _ _ c.in_ok-check_counts.ensures
+    (goes_on (refuse_first bad_actor 9 Table 0 actors) _ _ c.in_ok-check_actors.ensures
+    (c.check_links.ensures ∙ ap (λ k. refuse_first (bad_link (length actors)) 10 Table 0 (take k links)) (sub-zero c.args.given))) in
     record { answer = answer; sound = made_sound _ _ (λ e. sound actors links c.args.given c.args.lead c.args.delays c.args.reach (sym answer ∙ e)) }

@@ -7,7 +7,7 @@ use Rattle.planner.proofs.costs.cost_after.Goals as goal
 pub loop-i-preserved : goal.loop-i-preserved
 loop-i-preserved c =
     let next = at_drop_more (cost_after) c.args.links.now c.loop-i.i no_link c.loop-i-test.true in
-    let call = c.link-cost-after-cost.ensures in
+    let call = c.link_cost_after-cost.ensures in
     (omega (arith, next, call.value, c.loop-i.invariant.0), omega (arith, call.bound, c.loop-i.invariant.1))
 
 pub returns : goal.returns

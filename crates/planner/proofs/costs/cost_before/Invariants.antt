@@ -4,5 +4,5 @@ use Rattle.planner.proofs.costs.cost_before.Given as goal
 
 abbrev pub invariant-loop-i : goal.invariant-loop-i
 invariant-loop-i l =
-    (l.cost + cost_before l.ground.actors.now (length l.ground.actors.now) l.ground.delays.now (drop l.i l.links) ≡ cost_before l.ground.actors.now (length l.ground.actors.now) l.ground.delays.now l.links)
+    (l.cost + cost_before l.basis.actors.now (length l.basis.actors.now) l.basis.delays.now (drop l.i l.links) ≡ cost_before l.basis.actors.now (length l.basis.actors.now) l.basis.delays.now l.links)
     × (l.cost ≤ 4 * l.i)

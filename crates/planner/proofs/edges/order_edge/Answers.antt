@@ -8,14 +8,14 @@ returns-in-Some c = record {
   within = (omega (arith, c.in-Some.ensures.within), omega arith);
 }
 
-pub returns-in-Some-last-on : goal.returns-in-Some-last-on
-returns-in-Some-last-on c = record {
-  value = order_edge_is c.args.actors.now c.args.v _ _ c.in-None.ensures.value c.in-Some-last-on.ensures.value;
-  within = (omega (arith, c.in-Some-last-on.ensures.within), omega arith);
+pub returns-in-Some-last_on : goal.returns-in-Some-last_on
+returns-in-Some-last_on c = record {
+  value = order_edge_is c.args.actors.now c.args.v _ _ c.in-None.ensures.value c.in-Some-last_on.ensures.value;
+  within = (omega (arith, c.in-Some-last_on.ensures.within), omega arith);
 }
 
-pub returns-in-None-last-on : goal.returns-in-None-last-on
-returns-in-None-last-on c = record {
-  value = order_edge_is c.args.actors.now c.args.v _ _ c.in-None.ensures.value c.in-None-last-on.ensures.value;
+pub returns-in-None-last_on : goal.returns-in-None-last_on
+returns-in-None-last_on c = record {
+  value = order_edge_is c.args.actors.now c.args.v _ _ c.in-None.ensures.value c.in-None-last_on.ensures.value;
   within = (omega arith, omega arith);
 }

@@ -14,13 +14,13 @@ returns c =
     let actors = c.args.actors.now in
     let n = length actors in
     let es = map link_edge c.args.links.now in
-    let edge = c.edge-of-edge.result in
+    let edge = c.edge_of-edge.result in
     let table = delays_without actors es c.args.i edge in
     let rest = drop (n * n) c.args.delays.now in
     let long = length_paths_over delay_ops n Directed (orders actors ++ without c.args.i edge 0 es) in
     record {
       value =
-          redundant_read actors es c.args.i edge c.fill-without.new.cells rest c.place-at.result c.index-delays-at.result c.fill-without.ensures c.place-at.ensures.value c.place-at.ensures.within
-          ∙ ap (redundant actors es c.args.i) c.edge-of-edge.ensures;
-      rest = ap (drop (n * n)) c.fill-without.ensures ∙ drop_at table rest (n * n) long;
+          redundant_read actors es c.args.i edge c.fill_without.new.cells rest c.place-at.result c.index-delays-at.result c.fill_without.ensures c.place-at.ensures.value c.place-at.ensures.within
+          ∙ ap (redundant actors es c.args.i) c.edge_of-edge.ensures;
+      rest = ap (drop (n * n)) c.fill_without.ensures ∙ drop_at table rest (n * n) long;
     }

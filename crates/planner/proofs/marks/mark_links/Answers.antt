@@ -5,11 +5,11 @@ use Rattle.planner.proofs.Bounded.{ends_moved}
 use Rattle.planner.proofs.Rewriting.{front_edges_kept, marked_more}
 use Rattle.planner.proofs.marks.mark_links.Goals as goal
 
-pub slice-bounds-mark-of-end : goal.slice-bounds-mark-of-end
-slice-bounds-mark-of-end c = omega (arith, c.loop-i.invariant.2, c.requires.counts.1)
+pub slice_bounds-mark_of-end : goal.slice_bounds-mark_of-end
+slice_bounds-mark_of-end c = omega (arith, c.loop-i.invariant.2, c.requires.counts.1)
 
-pub mark-of-mark-requires : goal.mark-of-mark-requires
-mark-of-mark-requires c =
+pub mark_of-mark-requires : goal.mark_of-mark-requires
+mark_of-mark-requires c =
     let xs = c.args.links.now in
     let all = c.args.all in
     let es = map link_edge (take all xs) in
@@ -28,11 +28,11 @@ pub loop-i-preserved : goal.loop-i-preserved
 loop-i-preserved c =
     let xs = c.args.links.now in
     let es = map link_edge (take c.args.all xs) in (
-      marked_more c.args.actors.now es xs c.loop-i.links c.loop-i.i c.loop-i.invariant.0 c.args.all c.mark-of-mark.result refl
-          (omega (arith, c.requires.counts.0)) (omega (arith, c.requires.counts.0, c.requires.counts.1)) c.mark-of-mark.ensures.value,
-      c.mark-of-mark.ensures.rest ∙ c.loop-i.invariant.1,
+      marked_more c.args.actors.now es xs c.loop-i.links c.loop-i.i c.loop-i.invariant.0 c.args.all c.mark_of-mark.result refl
+          (omega (arith, c.requires.counts.0)) (omega (arith, c.requires.counts.0, c.requires.counts.1)) c.mark_of-mark.ensures.value,
+      c.mark_of-mark.ensures.rest ∙ c.loop-i.invariant.1,
       length-set c.loop-i.links c.loop-i.i _ ∙ c.loop-i.invariant.2,
     )
 
-pub shape-of-links : goal.shape-of-links
-shape-of-links c = c.loop-i.invariant.2
+pub shape_of-links : goal.shape_of-links
+shape_of-links c = c.loop-i.invariant.2

@@ -21,8 +21,8 @@ fill-requires c = record {
   ends = subst (λ k. EndsBelow (length c.args.actors.now) (take k c.args.links.now)) (sym (sub-zero c.args.given)) c.requires.ends;
 }
 
-pub cost-before-cost-requires : goal.cost-before-cost-requires
-cost-before-cost-requires c = record {
+pub cost_before-cost-requires : goal.cost_before-cost-requires
+cost_before-cost-requires c = record {
   few = omega (arith, sub-zero c.args.given, length-take-le (c.args.given - 0) c.args.links.now (omega (arith, c.requires.given.1)), c.requires.given.0);
   ends = subst (λ k. EndsBelow (length c.args.actors.now) (take k c.args.links.now)) (sym (sub-zero c.args.given)) c.requires.ends;
 }
@@ -37,12 +37,12 @@ returns c =
     let pieces = filled_over Loose reach_ops actors links _ given c.args.reach.now c.fill.new.cells (sub-zero given) c.fill.ensures in
     let front = front_of Loose reach_ops n (orders actors ++ map link_edge (take given links)) c.args.reach.now c.fill.new.cells pieces in
     let plan_ground : List Reach → Ground = λ joined. record { actors = actors; delays = c.args.delays.now; joined = joined } in
-    let call = c.add-backs-end.ensures in
+    let call = c.add_backs-end.ensures in
     record {
       links = call.table ∙ backs_placed _ lead links given c.requires.given.1 ∙ ap (λ j. with_backs links given (backs (plan_ground j) lead)) front;
       reach = pieces;
       end = call.next ∙ backs_end _ lead links given c.requires.given.1 ∙ ap (λ j. given + length (backs (plan_ground j) lead)) front;
-      cost = c.cost-before-cost.ensures ∙ ap (λ k. cost_before actors n c.args.delays.now (take k links)) (sub-zero given);
+      cost = c.cost_before-cost.ensures ∙ ap (λ k. cost_before actors n c.args.delays.now (take k links)) (sub-zero given);
       within = call.within;
       ends = call.ends;
     }

@@ -11,12 +11,12 @@ use Rattle.planner.specs.Slips.{slip_of, slip_answer, slip_values}
 use Rattle.planner.proofs.Planned.{over_over, planned_refused, planned_live, totals_whatever, links_whatever}
 use Rattle.planner.proofs.plans.plan.Goals as goal
 
-pub returns-in-err-survey : goal.returns-in-err-survey
-returns-in-err-survey c =
+pub returns-in_err-survey : goal.returns-in_err-survey
+returns-in_err-survey c =
     let d = drawing c.args.actors.now c.args.links.now c.args.given c.args.lead c.args.delays.now c.args.reach.now in
-    let p = err_from_is_err_and c.from-residual.result c.from-residual.ensures.1 in
-    let f = c.in-err-survey.field-0.0 in
-    let same = planned_refused d f c.in-err-survey.ensures.answer in
+    let p = err_from_is_err_and c.from_residual.result c.from_residual.ensures.1 in
+    let f = c.in_err-survey.field-0.0 in
+    let same = planned_refused d f c.in_err-survey.ensures.answer in
     let answer = p.1 ∙ ap Err p.2 ∙ sym (ap slip_answer same.answer) in
     record {
       answer = answer;
@@ -28,12 +28,12 @@ returns-in-err-survey c =
       promise = promise d;
     }
 
-pub plan-live-requires : goal.plan-live-requires
-plan-live-requires c =
+pub plan_live-requires : goal.plan_live-requires
+plan_live-requires c =
     let n = length c.args.actors.now in
     let d = drawing c.args.actors.now c.args.links.now c.args.given c.args.lead c.args.delays.now c.args.reach.now in
-    let on = planned_live d c.in-ok-survey.ensures.answer in
-    let sound = c.in-ok-survey.ensures.sound in
+    let on = planned_live d c.in_ok-survey.ensures.answer in
+    let sound = c.in_ok-survey.ensures.sound in
     let delays = c.survey.ensures.delays ∙ ap (λ o. o.delays) on.0 in
     record {
       sound = record {
@@ -51,10 +51,10 @@ pub returns : goal.returns
 returns c =
     let n = length c.args.actors.now in
     let d = drawing c.args.actors.now c.args.links.now c.args.given c.args.lead c.args.delays.now c.args.reach.now in
-    let on = planned_live d c.in-ok-survey.ensures.answer in
+    let on = planned_live d c.in_ok-survey.ensures.answer in
     let delays = c.survey.ensures.delays ∙ ap (λ o. o.delays) on.0 in
     let reach = c.survey.ensures.reach ∙ ap (λ o. o.reach) on.0 in
-    let call = c.plan-live.ensures in
+    let call = c.plan_live.ensures in
     let answer =
     ap Ok (call.slip ∙ ap slip_of (totals_whatever d c.survey.new.delays c.survey.new.reach))
     ∙ sym (ap (λ o. slip_answer o.answer) on.1) in

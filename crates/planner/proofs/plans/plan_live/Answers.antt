@@ -17,12 +17,12 @@ returns c =
     let n = length actors in
     let d = drawing actors links given lead c.args.delays.now c.args.reach.now in
     let front = ap (λ k. take k c.args.delays.now) (sub-zero (n * n)) ∙ c.requires.surveyed in
-    let found = c.add-back-links-all in
+    let found = c.add_back_links-all in
     let room : given ≤ length links = omega (arith, c.requires.sound.links_room) in
     let end = found.ensures.end ∙ ap (λ ds. given + length (backs (ground_of actors ds (take given links)) lead)) front in
     let is = found.ensures.links ∙ ap (λ ds. with_backs links given (backs (ground_of actors ds (take given links)) lead)) front in
     let before = found.ensures.cost ∙ ap (λ ds. cost_before actors n ds (take given links)) front in
-    let made = c.mark-and-size-after in
+    let made = c.mark_and_size-after in
     record {
       slip = ap slip_of (totals_planned d room found.result.0 found.new.links end is found.result.1 made.result before made.ensures.cost);
       links = links_planned d room found.result.0 found.new.links end is made.new.links made.ensures.links;

@@ -5,8 +5,8 @@ use Rattle.records.specs.Tables.{no_link}
 use Rattle.planner.proofs.Rewriting.{sized_not_yet, sized_more}
 use Rattle.planner.proofs.sizes.size_links.Goals as goal
 
-pub size-of-size-requires : goal.size-of-size-requires
-size-of-size-requires c =
+pub size_of-size-requires : goal.size_of-size-requires
+size_of-size-requires c =
     let xs = c.args.links.now in
     let i = c.loop-i.i in
     let here = sized_not_yet c.args.n c.args.delays.now xs c.loop-i.links i (omega arith) c.loop-i.invariant in
@@ -21,4 +21,4 @@ size-of-size-requires c =
 pub loop-i-preserved : goal.loop-i-preserved
 loop-i-preserved c =
     sized_more c.args.n c.args.delays.now c.args.links.now c.loop-i.links c.loop-i.i (omega arith) c.loop-i.invariant
-    c.size-of-size.result (omega arith) c.size-of-size.ensures
+    c.size_of-size.result (omega arith) c.size_of-size.ensures

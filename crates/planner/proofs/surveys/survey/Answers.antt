@@ -12,12 +12,12 @@ use Rattle.planner.proofs.Soundness.{made_sound}
 use Rattle.planner.proofs.Surveying.{filled_over, front_of, survey_refused, survey_deadlocked, survey_live}
 use Rattle.planner.proofs.surveys.survey.Goals as goal
 
-pub returns-in-err-check-tables : goal.returns-in-err-check-tables
-returns-in-err-check-tables c =
+pub returns-in_err-check_tables : goal.returns-in_err-check_tables
+returns-in_err-check_tables c =
     let d = drawing c.args.actors.now c.args.links.now c.args.given c.args.lead c.args.delays.now c.args.reach.now in
-    let p = err_from_is_err_and c.from-residual.result c.from-residual.ensures.1 in
-    let f = c.in-err-check-tables.field-0.0 in
-    let is = survey_refused d f c.in-err-check-tables.ensures.answer in
+    let p = err_from_is_err_and c.from_residual.result c.from_residual.ensures.1 in
+    let f = c.in_err-check_tables.field-0.0 in
+    let is = survey_refused d f c.in_err-check_tables.ensures.answer in
     let answer = p.1 ∙ ap Err p.2 ∙ sym (ap (λ o. o.answer) is) in
     record {
       answer = answer;
@@ -29,35 +29,35 @@ returns-in-err-check-tables c =
 
 pub fill-requires : goal.fill-requires
 fill-requires c =
-    let s = c.in-ok-check-tables.ensures.sound in
+    let s = c.in_ok-check_tables.ensures.sound in
     record {
       few = s.few;
       room = s.reach_room;
       ends = subst (λ k. EndsBelow (length c.args.actors.now) (take k c.args.links.now)) (sym (sub-zero c.args.given)) s.ends;
     }
 
-pub returns-in-err-check-cycles : goal.returns-in-err-check-cycles
-returns-in-err-check-cycles c =
+pub returns-in_err-check_cycles : goal.returns-in_err-check_cycles
+returns-in_err-check_cycles c =
     let actors = c.args.actors.now in
     let links = c.args.links.now in
     let d = drawing actors links c.args.given c.args.lead c.args.delays.now c.args.reach.now in
-    let p = err_from_is_err_and c.from-residual-in-err-check-cycles.result c.from-residual-in-err-check-cycles.ensures.1 in
-    let f = c.in-err-check-cycles.field-0.0 in
+    let p = err_from_is_err_and c.from_residual-in_err-check_cycles.result c.from_residual-in_err-check_cycles.ensures.1 in
+    let f = c.in_err-check_cycles.field-0.0 in
     let free = filled_over Directed reach_ops actors links _ c.args.given c.args.reach.now c.fill.new.cells (sub-zero c.args.given) c.fill.ensures in
     let front = front_of Directed reach_ops (length actors) (base_edges d) c.args.reach.now c.fill.new.cells free in
-    let is = survey_deadlocked d c.in-ok-check-tables.ensures.answer f (c.in-err-check-cycles.ensures ∙ ap (check_cycles (length actors)) front) in
+    let is = survey_deadlocked d c.in_ok-check_tables.ensures.answer f (c.in_err-check_cycles.ensures ∙ ap (check_cycles (length actors)) front) in
     let answer = p.1 ∙ ap Err p.2 ∙ sym (ap (λ o. o.answer) is) in
     record {
       answer = answer;
       view = ap (told (λ _. [])) answer;
       delays = sym (ap (λ o. o.delays) is);
       reach = free ∙ sym (ap (λ o. o.reach) is);
-      sound = made_sound _ _ (λ _. c.in-ok-check-tables.ensures.sound);
+      sound = made_sound _ _ (λ _. c.in_ok-check_tables.ensures.sound);
     }
 
 pub fill-requires-2 : goal.fill-requires-2
 fill-requires-2 c =
-    let s = c.in-ok-check-tables.ensures.sound in
+    let s = c.in_ok-check_tables.ensures.sound in
     record {
       few = s.few;
       room = s.delays_room;
@@ -72,12 +72,12 @@ returns c =
     let free = filled_over Directed reach_ops actors links _ c.args.given c.args.reach.now c.fill.new.cells (sub-zero c.args.given) c.fill.ensures in
     let front = front_of Directed reach_ops (length actors) (base_edges d) c.args.reach.now c.fill.new.cells free in
     let least = filled_over Directed delay_ops actors links _ c.args.given c.args.delays.now c.fill-2.new.cells (sub-zero c.args.given) c.fill-2.ensures in
-    let is = survey_live d c.in-ok-check-tables.ensures.answer (c.in-ok-check-cycles.ensures ∙ ap (check_cycles (length actors)) front) in
+    let is = survey_live d c.in_ok-check_tables.ensures.answer (c.in_ok-check_cycles.ensures ∙ ap (check_cycles (length actors)) front) in
     let answer = sym (ap (λ o. o.answer) is) in
     record {
       answer = answer;
       view = ap (told (λ _. [])) answer;
       delays = least ∙ sym (ap (λ o. o.delays) is);
       reach = free ∙ sym (ap (λ o. o.reach) is);
-      sound = c.in-ok-check-tables.ensures.sound;
+      sound = c.in_ok-check_tables.ensures.sound;
     }

@@ -11,6 +11,6 @@ returns g c =
     let actors = c.args.actors.now in
     let links = c.args.links.now in
     let n = length actors in
-    c.fill-without.ensures
+    c.fill_without.ensures
     ∙ ap (λ es. paths_over c.args.sight g.T.Algebra.ops n (orders actors ++ es) ++ drop (n * n) c.args.cells.now)
     (without_none (length links) (edge 0 0 0) 0 (map link_edge links) (omega (arith, length-map links link_edge)))

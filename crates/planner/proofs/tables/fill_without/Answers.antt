@@ -9,6 +9,6 @@ pub returns : goal.returns
 returns g c =
     let actors = c.args.actors.now in
     let links = c.args.links.now in
-    filled_in_steps c.args.sight g.T.Algebra.ops (length actors) c.args.cells.now c.clear.new.cells c.lay-orders.new.cells c.lay-links.new.cells c.close.new.cells
+    filled_in_steps c.args.sight g.T.Algebra.ops (length actors) c.args.cells.now c.clear.new.cells c.lay_orders.new.cells c.lay_links.new.cells c.close.new.cells
     (orders actors) (without c.args.skip c.args.like 0 (map link_edge links)) (omega arith) (edges_within actors links c.args.skip c.args.like c.requires.ends)
-    c.clear.ensures c.lay-orders.ensures c.lay-links.ensures c.close.ensures.table
+    c.clear.ensures c.lay_orders.ensures c.lay_links.ensures c.close.ensures.table

@@ -1,16 +1,16 @@
 use Rattle.std.proofs.Common.{sym, ◌∙◌}
 use Rattle.planner.proofs.Laying.{laid_link_none, laid_link_more, laid_links_all}
 use Rattle.planner.proofs.tables.lay_links.Goals as goal
-use Rattle.planner.proofs.tables.lay_links.Goals.{then-not-is-skipped, else-not-is-skipped}
+use Rattle.planner.proofs.tables.lay_links.Goals.{then-not-is_skipped, else-not-is_skipped}
 
 pub loop-j-preserved : goal.loop-j-preserved
 loop-j-preserved g c =
-    elim c.if-not-is-skipped.branch [
-      | then-not-is-skipped w ↦
-          laid_link_more c.args.sight g.T.Algebra.ops c.args.n c.args.skip c.args.like c.args.links.now c.loop-j.j c.loop-j-test.true c.edge-of-edge.result c.edge-of-edge.ensures c.loop-j.cells c.if-not-is-skipped.cells (sym c.is-skipped.ensures ∙ w.if-not-is-skipped.true) (w.cells-is ∙ w.lay_seen.ensures)
+    elim c.if-not-is_skipped.branch [
+      | then-not-is_skipped w ↦
+          laid_link_more c.args.sight g.T.Algebra.ops c.args.n c.args.skip c.args.like c.args.links.now c.loop-j.j c.loop-j-test.true c.edge_of-edge.result c.edge_of-edge.ensures c.loop-j.cells c.if-not-is_skipped.cells (sym c.is_skipped.ensures ∙ w.if-not-is_skipped.true) (w.cells-is ∙ w.lay_seen.ensures)
           ∙ c.loop-j.invariant
-      | else-not-is-skipped w ↦
-          laid_link_none c.args.sight g.T.Algebra.ops c.args.n c.args.skip c.args.like c.args.links.now c.loop-j.j c.loop-j-test.true c.edge-of-edge.result c.edge-of-edge.ensures c.loop-j.cells c.if-not-is-skipped.cells (sym c.is-skipped.ensures ∙ w.if-not-is-skipped.false) w.cells-is
+      | else-not-is_skipped w ↦
+          laid_link_none c.args.sight g.T.Algebra.ops c.args.n c.args.skip c.args.like c.args.links.now c.loop-j.j c.loop-j-test.true c.edge_of-edge.result c.edge_of-edge.ensures c.loop-j.cells c.if-not-is_skipped.cells (sym c.is_skipped.ensures ∙ w.if-not-is_skipped.false) w.cells-is
           ∙ c.loop-j.invariant
     ]
 

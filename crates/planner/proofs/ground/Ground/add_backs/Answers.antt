@@ -7,7 +7,7 @@ use Rattle.planner.specs.Views.{seen}
 use Rattle.planner.proofs.Appended.{doing_none, doing_more, doing_same}
 use Rattle.planner.proofs.Counting.{counting_more, counting_none}
 use Rattle.planner.proofs.ground.Ground.add_backs.Goals as goal
-use Rattle.planner.proofs.ground.Ground.add_backs.Goals.{then-wants-backs, else-wants-backs}
+use Rattle.planner.proofs.ground.Ground.add_backs.Goals.{then-wants_backs, else-wants_backs}
 
 pub loop-p-init : goal.loop-p-init
 loop-p-init c =
@@ -26,18 +26,18 @@ loop-p-preserved c =
     let left = backs_among g lead (range_with_len p (n - p)) in
     let later = backs_among g lead (range_with_len (p + 1) (n - (p + 1))) in
     let split = ap (backs_among g lead) (counting_more p n c.loop-p-test.true) in
-    elim c.if-wants-backs.branch [
-      | then-wants-backs w ↦
-          let call = w.add-part-next in
-          let here = split ∙ ap (λ ls. ls ++ later) (cond-true _ _ _ (sym c.wants_backs.ensures ∙ w.if-wants-backs.true)) in
+    elim c.if-wants_backs.branch [
+      | then-wants_backs w ↦
+          let call = w.add_part-next in
+          let here = split ∙ ap (λ ls. ls ++ later) (cond-true _ _ _ (sym c.wants_backs.ensures ∙ w.if-wants_backs.true)) in
           let more = doing_more n limit links c.args.at whole c.loop-p.links c.loop-p.next left c.loop-p.invariant
           (part_backs g lead p) later call.new.links call.result here call.ensures.table call.ensures.next call.ensures.within call.ensures.ends in
           doing_same n limit links c.args.at whole call.new.links call.result later more
-          c.if-wants-backs.links c.if-wants-backs.next later w.links-is w.next-is refl
-      | else-wants-backs w ↦
-          let here = split ∙ ap (λ ls. ls ++ later) (cond-false _ _ _ (sym c.wants_backs.ensures ∙ w.if-wants-backs.false)) in
+          c.if-wants_backs.links c.if-wants_backs.next later w.links-is w.next-is refl
+      | else-wants_backs w ↦
+          let here = split ∙ ap (λ ls. ls ++ later) (cond-false _ _ _ (sym c.wants_backs.ensures ∙ w.if-wants_backs.false)) in
           doing_same n limit links c.args.at whole c.loop-p.links c.loop-p.next left c.loop-p.invariant
-          c.if-wants-backs.links c.if-wants-backs.next later w.links-is w.next-is (sym here)
+          c.if-wants_backs.links c.if-wants_backs.next later w.links-is w.next-is (sym here)
     ]
 
 pub returns : goal.returns

@@ -26,8 +26,8 @@ returns c =
     let b = c.chain-left in
     let two = doing_more n limit links at whole a.new.links a.result (exits ++ last) one exits last b.new.links b.result refl b.ensures.table b.ensures.next b.ensures.within b.ensures.ends in
     let link =
-    c.back_link.ensures.value ∙ ap (λ u. back_link (stand g u) (stand g c.first-group-to.result) lead) c.last-group-from.ensures.value
-    ∙ ap (λ u. back_link (stand g (last_or p (groups_of g Exit p))) (stand g u) lead) c.first-group-to.ensures.value in
+    c.back_link.ensures.value ∙ ap (λ u. back_link (stand g u) (stand g c.first_group-to.result) lead) c.last_group-from.ensures.value
+    ∙ ap (λ u. back_link (stand g (last_or p (groups_of g Exit p))) (stand g u) lead) c.first_group-to.ensures.value in
     let d = c.append in
     let three = doing_more n limit links at whole b.new.links b.result last two last [] d.new.links d.result refl
     (d.ensures.table ∙ ap (put_one limit b.new.links b.result) link) d.ensures.next d.ensures.within d.ensures.ends in

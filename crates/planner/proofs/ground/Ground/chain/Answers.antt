@@ -21,7 +21,7 @@ loop-u-preserved c =
     let later = heads_left g end p n (u + 1) in
     elim c.if-heads.branch [
       | then-heads w ↦
-          let call = w.link-from-next in
+          let call = w.link_from-next in
           let here = ap (chain g c.loop-u.earlier) (heads_here g end p n u c.loop-u-test.true (sym c.heads.ensures ∙ w.if-heads.true)) in
           let more = doing_more n limit c.args.links.now c.args.at whole c.loop-u.links c.loop-u.next left c.loop-u.invariant.0
           (link_from g c.loop-u.earlier u) (chain g (Some u) later) call.new.links call.result here

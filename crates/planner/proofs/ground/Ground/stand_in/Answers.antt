@@ -2,19 +2,19 @@ use Rattle.std.proofs.Common.{◌≡◌, length, sym, ap, ◌∙◌, arith}
 use Rattle.planning.specs.Groups.{stand_below, stand_in}
 use Rattle.planner.proofs.Stands.{stand_takes, stand_keeps}
 use Rattle.planner.proofs.ground.Ground.stand_in.Goals as goal
-use Rattle.planner.proofs.ground.Ground.stand_in.Goals.{then-stands-better, else-stands-better}
+use Rattle.planner.proofs.ground.Ground.stand_in.Goals.{then-stands_better, else-stands_better}
 
 pub loop-w-preserved : goal.loop-w-preserved
 loop-w-preserved c =
     let actors = c.args.self.now.actors.now in
     let delays = c.args.self.now.delays.now in
-    elim c.if-stands-better.branch [
-      | then-stands-better w ↦ (
-        w.best-is ∙ stand_takes actors (length actors) delays c.args.u c.loop-w.w c.loop-w.best c.loop-w.invariant.0 (sym c.stands_better.ensures ∙ w.if-stands-better.true),
+    elim c.if-stands_better.branch [
+      | then-stands_better w ↦ (
+        w.best-is ∙ stand_takes actors (length actors) delays c.args.u c.loop-w.w c.loop-w.best c.loop-w.invariant.0 (sym c.stands_better.ensures ∙ w.if-stands_better.true),
         omega (arith, w.best-is),
       )
-      | else-stands-better w ↦ (
-        w.best-is ∙ stand_keeps actors (length actors) delays c.args.u c.loop-w.w c.loop-w.best c.loop-w.invariant.0 (sym c.stands_better.ensures ∙ w.if-stands-better.false),
+      | else-stands_better w ↦ (
+        w.best-is ∙ stand_keeps actors (length actors) delays c.args.u c.loop-w.w c.loop-w.best c.loop-w.invariant.0 (sym c.stands_better.ensures ∙ w.if-stands_better.false),
         omega (arith, w.best-is, c.loop-w.invariant.1),
       )
     ]
