@@ -7,7 +7,7 @@ pub returns : goal.returns
 unfolding cost_line
 returns c =
     c.push.ensures.bytes
-    ∙ before _ (c.push-field-2.ensures.bytes
-    ∙ before _ (c.push-field.ensures.bytes
-    ∙ before _ (c.push-word.ensures.bytes
+    ∙ before _ (c.push_field-2.ensures.bytes
+    ∙ before _ (c.push_field.ensures.bytes
+    ∙ before _ (c.push_word.ensures.bytes
     ∙ before _ c.new-line.ensures.bytes)))

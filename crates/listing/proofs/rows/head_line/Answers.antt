@@ -7,10 +7,10 @@ pub returns : goal.returns
 unfolding head_line
 returns c =
     c.push.ensures.bytes
-    ∙ before _ (c.push-field-3.ensures.bytes
-    ∙ before _ (c.push-word-3.ensures.bytes
-    ∙ before _ (c.push-field-2.ensures.bytes
-    ∙ before _ (c.push-word-2.ensures.bytes
-    ∙ before _ (c.push-field.ensures.bytes
-    ∙ before _ (c.push-word.ensures.bytes
+    ∙ before _ (c.push_field-3.ensures.bytes
+    ∙ before _ (c.push_word-3.ensures.bytes
+    ∙ before _ (c.push_field-2.ensures.bytes
+    ∙ before _ (c.push_word-2.ensures.bytes
+    ∙ before _ (c.push_field.ensures.bytes
+    ∙ before _ (c.push_word.ensures.bytes
     ∙ before _ c.new-line.ensures.bytes))))))

@@ -6,17 +6,17 @@ use Rattle.listing.proofs.write.put_links.Goals as goal
 
 pub put-at-requires : goal.put-at-requires
 put-at-requires c =
-    let more = next_length c.args.links.now c.loop-number.number _ _ c.loop-number-test.true (c.as-bytes.ensures.bytes ∙ c.link_line.ensures) in
+    let more = next_length c.args.links.now c.loop-number.number _ _ c.loop-number-test.true (c.as_bytes.ensures.bytes ∙ c.link_line.ensures) in
     omega (arith, c.loop-number.invariant.0)
 
 pub loop-number-preserved : goal.loop-number-preserved
 loop-number-preserved c =
-    let comes = c.as-bytes.ensures.bytes ∙ c.link_line.ensures in
+    let comes = c.as_bytes.ensures.bytes ∙ c.link_line.ensures in
     let more = next_length c.args.links.now c.loop-number.number _ _ c.loop-number-test.true comes in
     let split = next_line c.args.links.now c.loop-number.number _ _ c.loop-number-test.true comes in
     let long : c.loop-number.at ≤ length c.loop-number.out = omega (arith, c.loop-number.invariant.0) in
     let rest : List ℕ = link_lines (c.loop-number.number + 1) (drop (c.loop-number.number + 1) c.args.links.now) in
-    let put = written_more c.loop-number.out c.loop-number.at c.as-bytes.result.now rest long in
+    let put = written_more c.loop-number.out c.loop-number.at c.as_bytes.result.now rest long in
     (omega (arith, c.loop-number.invariant.0), cc)
 
 pub returns : goal.returns

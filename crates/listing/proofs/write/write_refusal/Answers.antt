@@ -5,9 +5,9 @@ use Rattle.listing.proofs.write.write_refusal.Goals as goal
 
 pub returns : goal.returns
 returns c =
-    let line : List ℕ = c.as-bytes-bytes.result.now in
+    let line : List ℕ = c.as_bytes-bytes.result.now in
     let out : List ℕ = c.args.out.now in
-    let is = c.as-bytes-bytes.ensures.bytes ∙ c.refusal-line-line.ensures in
+    let is = c.as_bytes-bytes.ensures.bytes ∙ c.refusal_line-line.ensures in
     record {
       answer = answers line out c.if-bytes-out.false c.put.result (omega arith) ∙ ap (λ (b : List ℕ). fit_answer b out) is;
       output = c.put.ensures.output ∙ leaves line out c.if-bytes-out.false ∙ ap (λ (b : List ℕ). fit_output b out) is;

@@ -5,15 +5,15 @@ use Rattle.planner.proofs.Refusing.{refuse_here, refuse_later, refuse_none}
 use Rattle.running.specs.Runs.{unfit_link}
 use Rattle.runs.proofs.checks.check_links.Goals as goal
 
-pub returns-then-is-unfit : goal.returns-then-is-unfit
-returns-then-is-unfit c =
-    ap Err c.run-fault.ensures
-    ∙ sym (refuse_here (unfit_link c.args.largest c.args.n) 16 Run c.args.links.now c.loop-i.i no_link c.loop-i-test.true (sym c.is-unfit.ensures ∙ c.if-is-unfit.true))
+pub returns-then-is_unfit : goal.returns-then-is_unfit
+returns-then-is_unfit c =
+    ap Err c.run_fault.ensures
+    ∙ sym (refuse_here (unfit_link c.args.largest c.args.n) 16 Run c.args.links.now c.loop-i.i no_link c.loop-i-test.true (sym c.is_unfit.ensures ∙ c.if-is_unfit.true))
     ∙ c.loop-i.invariant
 
 pub loop-i-preserved : goal.loop-i-preserved
 loop-i-preserved c =
-    sym (refuse_later (unfit_link c.args.largest c.args.n) 16 Run c.args.links.now c.loop-i.i no_link c.loop-i-test.true (sym c.is-unfit.ensures ∙ c.if-is-unfit.false))
+    sym (refuse_later (unfit_link c.args.largest c.args.n) 16 Run c.args.links.now c.loop-i.i no_link c.loop-i-test.true (sym c.is_unfit.ensures ∙ c.if-is_unfit.false))
     ∙ c.loop-i.invariant
 
 pub returns : goal.returns

@@ -5,8 +5,8 @@ use Rattle.records.specs.Tables.{no_actor}
 use Rattle.running.specs.Runs.{far_processor}
 use Rattle.runs.proofs.checks.has_far_processor.Goals as goal
 
-pub returns-then-actors-i-gt-LAST-PROCESSOR : goal.returns-then-actors-i-gt-LAST-PROCESSOR
-returns-then-actors-i-gt-LAST-PROCESSOR c =
+pub returns-then-actors-i-gt-LAST_PROCESSOR : goal.returns-then-actors-i-gt-LAST_PROCESSOR
+returns-then-actors-i-gt-LAST_PROCESSOR c =
     let i = c.loop-i.i in
     sym (at_drop_more far_processor c.args.actors.now i no_actor (omega arith)
     ∙ ap (λ b. b || far_processor (drop (i + 1) c.args.actors.now)) (lt-ltb _ _ (omega arith)))

@@ -13,16 +13,16 @@ use Rattle.runs.specs.Alone.{Stand, guarded_if}
 use Rattle.runs.proofs.Rehearsing.{made_refused, refused_plan, accepted_plan, when_refused, when_accepted, own_law, stand_accepted}
 use Rattle.runs.proofs.rehearsals.rehearse.Goals as goal
 
-pub returns-in-err-slip : goal.returns-in-err-slip
-returns-in-err-slip g c =
+pub returns-in_err-slip : goal.returns-in_err-slip
+returns-in_err-slip g c =
     let largest = g.G.Guard.largest in
     let d = drawing c.args.actors.now c.args.links.now c.args.given c.args.lead c.args.delays.now c.args.reach.now in
     let levels = map g.G.Guard.level c.args.row.now in
     let steps = c.args.steps.now in
-    let plan = c.in-err-slip.ensures in
-    let p = err_from_is_err_and c.from-residual.result c.from-residual.ensures.1 in
+    let plan = c.in_err-slip.ensures in
+    let p = err_from_is_err_and c.from_residual.result c.from_residual.ensures.1 in
     let answer = p.1 ∙ ap Err p.2 ∙ plan.answer in
-    let is = when_refused largest d levels steps c.in-err-slip.field-0.0 (refused_plan (planned d).answer c.in-err-slip.field-0.0 plan.answer) in
+    let is = when_refused largest d levels steps c.in_err-slip.field-0.0 (refused_plan (planned d).answer c.in_err-slip.field-0.0 plan.answer) in
     let same-steps : steps ≡ (rehearsed largest d levels steps).steps = ap (λ (r : Rehearsed). r.steps) (sym is) in
     let same-levels : levels ≡ (rehearsed largest d levels steps).row = ap (λ (r : Rehearsed). r.row) (sym is) in
     record {
@@ -31,7 +31,7 @@ returns-in-err-slip g c =
       links = plan.links;
       delays = plan.delays;
       reach = plan.reach;
-      room = made_refused c.from-residual.result c.in-err-slip.field-0.0 _ (p.1 ∙ ap Err p.2);
+      room = made_refused c.from_residual.result c.in_err-slip.field-0.0 _ (p.1 ∙ ap Err p.2);
       steps = same-steps;
       answers = ap (map (λ (x : Step). answer_values x.answer)) same-steps;
       levels = same-levels;
@@ -48,16 +48,16 @@ returns g c =
     let actors = c.args.actors.now in
     let levels = map means c.args.row.now in
     let steps = c.args.steps.now in
-    let slip = c.in-ok-slip.slip in
+    let slip = c.in_ok-slip.slip in
     let t = totals_of slip in
-    let plan = c.in-ok-slip.ensures in
-    let run = c.run-plan.ensures in
+    let plan = c.in_ok-slip.ensures in
+    let run = c.run_plan.ensures in
     let ok = accepted_plan (planned d).answer slip plan.answer in
     let is = when_accepted largest d levels steps t ok in
     let answer = ap Ok run.slip ∙ plan.answer in
-    let left = c.run-plan.new.row in
+    let left = c.run_plan.new.row in
     let plan-room : t.given + t.back ≤ length c.args.links.now = plan.room in
-    let same-steps : c.run-plan.new.steps ≡ (rehearsed largest d levels steps).steps =
+    let same-steps : c.run_plan.new.steps ≡ (rehearsed largest d levels steps).steps =
     run.steps ∙ ap (λ (ls : List Link). carried (site_of t actors ls) (opened largest t actors ls levels) steps) plan.links ∙ ap (λ (r : Rehearsed). r.steps) (sym is) in
     let same-levels : map means left ≡ (rehearsed largest d levels steps).row =
     run.levels ∙ ap (λ (ls : List Link). (carried_to (site_of t actors ls) (opened largest t actors ls levels) steps).row) plan.links ∙ ap (λ (r : Rehearsed). r.row) (sym is) in
@@ -74,5 +74,5 @@ returns g c =
       stand = stand_accepted largest d levels steps t ok c.plan.new.links c.args.row.now left
           (subst (λ (ls : List Link). Stand (guarded_if (opened largest t actors ls levels).fault) (take (slip.given + slip.back) c.plan.new.links) c.args.row.now left) plan.links run.stand);
       claim = claim d;
-      law = own_law largest d levels steps c.run-plan.new.steps (map means left) same-steps same-levels;
+      law = own_law largest d levels steps c.run_plan.new.steps (map means left) same-steps same-levels;
     }

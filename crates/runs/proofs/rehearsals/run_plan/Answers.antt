@@ -17,8 +17,8 @@ returns g c =
     let steps = c.args.steps.now in
     let run = c.open-run.result in
     let start = c.open-run.ensures in
-    let carry = c.carry-out.ensures in
-    let left = c.carry-out.new.self.row.now in
+    let carry = c.carry_out.ensures in
+    let left = c.carry_out.new.self.row.now in
     let s = site_of t actors links in
     let first = opened g.G.Guard.largest t actors links (map means row) in
     let as-planned : (X : Type 0) (f : Site → Standing → X)
@@ -32,6 +32,6 @@ returns g c =
     record {
       slip = c.close.ensures.slip ∙ carry.slip ∙ start.slip;
       steps = carry.steps ∙ as-planned _ (λ x n. carried x n steps);
-      levels = ap (map means) {y = c.carry-out.new.self.row.now} (search rules) ∙ ap (λ (x : Standing). x.row) carry.standing ∙ as-planned _ (λ x n. (carried_to x n steps).row);
-      stand = λ k h. ap (at k) {y = c.carry-out.new.self.row.now} (search rules) ∙ stand-planned k h;
+      levels = ap (map means) {y = c.carry_out.new.self.row.now} (search rules) ∙ ap (λ (x : Standing). x.row) carry.standing ∙ as-planned _ (λ x n. (carried_to x n steps).row);
+      stand = λ k h. ap (at k) {y = c.carry_out.new.self.row.now} (search rules) ∙ stand-planned k h;
     }

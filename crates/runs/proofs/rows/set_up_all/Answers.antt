@@ -13,9 +13,9 @@ loop-i-preserved g c =
     let change = set_up in
     let hl : c.loop-i.i < length c.args.links.now = omega arith in
     let hr : c.loop-i.i < length c.loop-i.row = omega (arith, c.loop-i.invariant.1) in (
-      rewritten means change links c.args.row.now c.loop-i.row i c.index-row-i.result c.fresh-guard.result hl hr c.index-row-i.is c.loop-i.invariant.1 c.loop-i.invariant.0 c.fresh-guard.ensures.level,
+      rewritten means change links c.args.row.now c.loop-i.row i c.index-row-i.result c.fresh_guard.result hl hr c.index-row-i.is c.loop-i.invariant.1 c.loop-i.invariant.0 c.fresh_guard.ensures.level,
       length-set c.loop-i.row i _ ∙ c.loop-i.invariant.1,
-      stand_more guarded links c.args.row.now c.loop-i.row i c.index-row-i.result c.fresh-guard.result hl hr c.index-row-i.is c.fresh-guard.ensures.stands c.loop-i.invariant.2,
+      stand_more guarded links c.args.row.now c.loop-i.row i c.index-row-i.result c.fresh_guard.result hl hr c.index-row-i.is c.fresh_guard.ensures.stands c.loop-i.invariant.2,
     )
 
 pub returns : goal.returns

@@ -6,8 +6,8 @@ use Rattle.listing.specs.Shown.{shown}
 use Rattle.listing.proofs.line.Line.+push_number.Goals as goal
 use Rattle.listing.proofs.line.Line.+push_number.Goals.{then-n-ge10, else-n-ge10}
 
-pub push-number-requires : goal.push-number-requires
-push-number-requires t c =
+pub push_number-requires : goal.push_number-requires
+push_number-requires t c =
     let more = ap length (decimal_step c.args.n (omega arith) (omega arith)) ∙ length_push _ _ in (omega arith, omega arith)
 
 pub push-requires : goal.push-requires

@@ -28,31 +28,31 @@ returns-then-actor-self g c =
     let self = c.args.self.now in
     let s = site self.tables.actors.now self.tables.links.now in
     let before = standing self.tables.fault self.entries self.turns (map g.G.Guard.level self.row.now) in
-    let refused = unknown_refuses s before c.args.act c.args.actor c.in-default.is c.if-actor-self.true ∙ ap Err (sym c.run-fault.ensures) in
+    let refused = unknown_refuses s before c.args.act c.args.actor c.in_default.is c.if-actor-self.true ∙ ap Err (sym c.run_fault.ensures) in
     record {
       answer = sym refused;
-      standing = sym (refused_stands s before c.args.act c.args.actor c.run-fault.result refused);
+      standing = sym (refused_stands s before c.args.act c.args.actor c.run_fault.result refused);
       stand = λ k h. refl;
       tables = refl;
       slip = refl;
       named = refl;
     }
 
-pub returns-in-err-advance : goal.returns-in-err-advance
-returns-in-err-advance g c =
+pub returns-in_err-advance : goal.returns-in_err-advance
+returns-in_err-advance g c =
     let self = c.args.self.now in
     let act = c.args.act in
     let actor = c.args.actor in
     let s = site self.tables.actors.now self.tables.links.now in
     let before = standing self.tables.fault self.entries self.turns (map g.G.Guard.level self.row.now) in
-    let p = err_from_is_err_and c.from-residual.result c.from-residual.ensures.1 in
-    let refusal = c.in-err-advance.field-0.0 in
+    let p = err_from_is_err_and c.from_residual.result c.from_residual.ensures.1 in
+    let refusal = c.in_err-advance.field-0.0 in
     let entry : Entry = entry_at before actor in
-    let check : Err refusal ≡ entry_check act actor (has_turn s before actor) c.blocked-blocked.result entry = c.in-err-advance.ensures.answer in
+    let check : Err refusal ≡ entry_check act actor (has_turn s before actor) c.blocked-blocked.result entry = c.in_err-advance.ensures.answer in
     let refused : act_check s before act actor ≡ Err refusal =
-    entry_decides s before act actor c.in-default.is (omega (arith, c.if-actor-self.false))
+    entry_decides s before act actor c.in_default.is (omega (arith, c.if-actor-self.false))
     ∙ ap (λ b. entry_check act actor (has_turn s before actor) b entry) (sym c.blocked-blocked.ensures) ∙ sym check in
-    let same : c.advance.new.entry ≡ entry = c.in-err-advance.ensures.entry ∙ ap (λ r. entry_if r act entry) (sym check) in
+    let same : c.advance.new.entry ≡ entry = c.in_err-advance.ensures.entry ∙ ap (λ r. entry_if r act entry) (sym check) in
     let entries : set self.entries actor c.advance.new.entry ≡ self.entries = ap (set self.entries actor) same ∙ set-get_or self.entries actor rested in
     record {
       answer = p.1 ∙ ap Err p.2 ∙ sym refused;
@@ -75,20 +75,20 @@ returns g c =
     let s = site self.tables.actors.now self.tables.links.now in
     let before = standing self.tables.fault self.entries self.turns (map means self.row.now) in
     let entry : Entry = entry_at before actor in
-    let check : Ok tt ≡ entry_check act actor (has_turn s before actor) c.blocked-blocked.result entry = c.in-ok-advance.ensures.answer in
+    let check : Ok tt ≡ entry_check act actor (has_turn s before actor) c.blocked-blocked.result entry = c.in_ok-advance.ensures.answer in
     let accepted : act_check s before act actor ≡ Ok tt =
-    entry_decides s before act actor c.in-default.is (omega (arith, c.if-actor-self.false))
+    entry_decides s before act actor c.in_default.is (omega (arith, c.if-actor-self.false))
     ∙ ap (λ b. entry_check act actor (has_turn s before actor) b entry) (sym c.blocked-blocked.ensures) ∙ sym check in
-    let moved : c.advance.new.entry ≡ entry_after act entry = c.in-ok-advance.ensures.entry ∙ ap (λ r. entry_if r act entry) (sym check) in
-    let turns : c.pass-turn.new.turns ≡ turns_after s act actor self.turns = c.pass-turn.ensures in
+    let moved : c.advance.new.entry ≡ entry_after act entry = c.in_ok-advance.ensures.entry ∙ ap (λ r. entry_if r act entry) (sym check) in
+    let turns : c.pass_turn.new.turns ≡ turns_after s act actor self.turns = c.pass_turn.ensures in
     record {
       answer = sym accepted;
       standing =
-          ap (λ e. standing self.tables.fault (set self.entries actor e) c.pass-turn.new.turns (map means c.pass-all.new.row)) moved
-          ∙ ap (λ ts. standing self.tables.fault (set self.entries actor (entry_after act entry)) ts (map means c.pass-all.new.row)) turns
-          ∙ ap (standing self.tables.fault (set self.entries actor (entry_after act entry)) (turns_after s act actor self.turns)) c.pass-all.ensures.levels
+          ap (λ e. standing self.tables.fault (set self.entries actor e) c.pass_turn.new.turns (map means c.pass_all.new.row)) moved
+          ∙ ap (λ ts. standing self.tables.fault (set self.entries actor (entry_after act entry)) ts (map means c.pass_all.new.row)) turns
+          ∙ ap (standing self.tables.fault (set self.entries actor (entry_after act entry)) (turns_after s act actor self.turns)) c.pass_all.ensures.levels
           ∙ sym (accepted_moves s before act actor accepted);
-      stand = c.pass-all.ensures.stand;
+      stand = c.pass_all.ensures.stand;
       tables = refl;
       slip = refl;
       named = refl;

@@ -6,7 +6,7 @@ use Rattle.running.specs.Runs.{site, standing, cells_values}
 use Rattle.running.proofs.Unsound.{no_cells}
 use Rattle.runs.proofs.Asking.{unknown_tells, cross_tells}
 use Rattle.runs.proofs.run.Run.cells.Goals as goal
-use Rattle.runs.proofs.run.Run.cells.Goals.{then-link-self-via-then-link-self, then-link-self-via-else-link-self+then-self-link-gt-LAST-CROSS-MARK}
+use Rattle.runs.proofs.run.Run.cells.Goals.{then-link-self-via-then-link-self, then-link-self-via-else-link-self+then-self-link-gt-LAST_CROSS_MARK}
 
 pub returns-in-Some : goal.returns-in-Some
 returns-in-Some g c =
@@ -25,10 +25,10 @@ returns-then-link-self g c =
     let before = standing self.tables.fault self.entries self.turns (map g.G.Guard.level self.row.now) in
     let none : (leb (length links) i || ltb 1 (get_or links i no_link).mark) ≡ true = elim c.then-link-self.branch [
       | then-link-self-via-then-link-self w ↦ or_left (leb (length links) i) (ltb 1 (get_or links i no_link).mark) (le-leb (length links) i w.if-link-self.true)
-      | then-link-self-via-else-link-self+then-self-link-gt-LAST-CROSS-MARK w ↦
-          or_right (leb (length links) i) (ltb 1 (get_or links i no_link).mark) (lt-ltb 1 (get_or links i no_link).mark w.if-self-link-gt-LAST-CROSS-MARK.true)
+      | then-link-self-via-else-link-self+then-self-link-gt-LAST_CROSS_MARK w ↦
+          or_right (leb (length links) i) (ltb 1 (get_or links i no_link).mark) (lt-ltb 1 (get_or links i no_link).mark w.if-self-link-gt-LAST_CROSS_MARK.true)
     ] in
-    let is = ap Err c.run-fault.ensures ∙ sym (unknown_tells s before i c.in-default.is none) in
+    let is = ap Err c.run_fault.ensures ∙ sym (unknown_tells s before i c.in_default.is none) in
     record { answer = is; view = ap (told cells_values) is }
 
 pub returns : goal.returns
@@ -39,6 +39,6 @@ returns g c =
     let s = site self.tables.actors.now links in
     let before = standing self.tables.fault self.entries self.turns (map g.G.Guard.level self.row.now) in
     let cross : (leb (length links) i || ltb 1 (get_or links i no_link).mark) ≡ false =
-    or_from (leb (length links) i) (ltb 1 (get_or links i no_link).mark) (lt-leb (length links) i c.if-link-self.false) (le-ltb 1 (get_or links i no_link).mark c.if-self-link-gt-LAST-CROSS-MARK.false) in
-    let is = ap Ok c.buffer.ensures ∙ sym (cross_tells s before i c.in-default.is cross) in
+    or_from (leb (length links) i) (ltb 1 (get_or links i no_link).mark) (lt-leb (length links) i c.if-link-self.false) (le-ltb 1 (get_or links i no_link).mark c.if-self-link-gt-LAST_CROSS_MARK.false) in
+    let is = ap Ok c.buffer.ensures ∙ sym (cross_tells s before i c.in_default.is cross) in
     record { answer = is; view = ap (told cells_values) is }

@@ -14,11 +14,11 @@ returns g c =
     let actors = c.args.actors.now in
     let links = c.args.links.now in
     let row = c.args.row.now in
-    let cut = c.cut-tables-tables.ensures in
-    let fault = c.cut-tables-tables.result.fault in
-    let front = c.cut-tables-tables.result.links.now in
-    let first = c.cut-tables-tables.result.actors.now in
-    let check : c.cut-tables-tables.result.fault ≡ fault_of (open_check g.G.Guard.largest (totals_of c.args.slip) c.args.actors.now c.args.links.now (length (map g.G.Guard.level c.args.row.now))) =
+    let cut = c.cut_tables-tables.ensures in
+    let fault = c.cut_tables-tables.result.fault in
+    let front = c.cut_tables-tables.result.links.now in
+    let first = c.cut_tables-tables.result.actors.now in
+    let check : c.cut_tables-tables.result.fault ≡ fault_of (open_check g.G.Guard.largest (totals_of c.args.slip) c.args.actors.now c.args.links.now (length (map g.G.Guard.level c.args.row.now))) =
     cut.fault ∙ ap (λ k. fault_of (open_check largest t actors links k)) (sym (length-map row means)) in
     record {
       slip = refl;
