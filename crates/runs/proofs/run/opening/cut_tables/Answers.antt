@@ -17,16 +17,13 @@ invariant_of-result g c =
     let front = sym c.links_of.ensures in
     let near = sym c.actors_of.ensures in
     let ok : is_some c.fault_of.result ≡ false → open_check g.G.Guard.largest (totals_of c.args.slip.now) c.args.actors.now c.args.links.now c.args.row ≡ Ok tt =
-    λ h. sym c.check_open.ensures ∙ none_ok c.check_open.result (ap is_some (sym c.fault_of.ensures) ∙ h) in (
-      (λ h. subst (λ (xs : List Actor). length xs ≤ 64) near (few largest t actors links row (ok h))),
-      (
-        (λ h. subst ProcessorsLow near (processors largest t actors links row (ok h))),
-        (
-          (λ h. subst (λ (xs : List Actor). EndsLow xs c.links_of.result.now) near (subst (EndsLow (take t.actors actors)) front (ends largest t actors links row (ok h)))),
-          ((λ h. subst HasCells front (cells largest t actors links row (ok h))), tt),
-        ),
-      ),
-    )
+    λ h. sym c.check_open.ensures ∙ none_ok c.check_open.result (ap is_some (sym c.fault_of.ensures) ∙ h) in
+    record {
+      few = λ h. subst (λ (xs : List Actor). length xs ≤ 64) near (few largest t actors links row (ok h));
+      processors = λ h. subst ProcessorsLow near (processors largest t actors links row (ok h));
+      ends = λ h. subst (λ (xs : List Actor). EndsLow xs c.links_of.result.now) near (subst (EndsLow (take t.actors actors)) front (ends largest t actors links row (ok h)));
+      cells = λ h. subst HasCells front (cells largest t actors links row (ok h));
+    }
 
 pub returns : goal.returns
 returns g c =
