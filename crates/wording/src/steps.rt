@@ -49,7 +49,8 @@ fn tell_step(told: &mut String, step: Step) -> fmt::Result
 {
     let call = ToldCall(step.call);
     let answer = ToldAnswer(step.answer);
-    writeln!(told, "{call} {answer}")
+    writeln!(told, "{call} {answer}")?;
+    Ok(())
 }
 
 /// Writes a line for each step, as `start 0 done`, `start 1 refused 20 run 0` or `cells 0 holds 2 write 0 read 1`.

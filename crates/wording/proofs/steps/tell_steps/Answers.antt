@@ -9,7 +9,7 @@ told_more before line after rest all p q = ap (λ bytes. bytes ++ rest) p ∙ ap
 
 pub loop-step-preserved : goal.loop-step-preserved
 loop-step-preserved c =
-    let line = c.in-ok-tell-step.ensures in
+    let line = c.in_ok-tell_step.ensures in
     let more = at_drop_more step_lines c.args.steps.now c.loop-step.step-index _ c.loop-step-test.true in
     told_more _ _ _ _ _ line more ∙ c.loop-step.invariant
 
