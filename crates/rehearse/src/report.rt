@@ -13,10 +13,12 @@ fn tell_link(told: &mut String, number: usize, link: Link, holding: Holding) -> 
     let Holding { held, most } = holding;
     write!(told, "link {number} holds {held} most {most} ")?;
     if link.mark == LOCAL {
-        return writeln!(told, "home");
+        writeln!(told, "home")?;
+        return Ok(());
     }
     let cells = link.size;
-    writeln!(told, "cells {cells}")
+    writeln!(told, "cells {cells}")?;
+    Ok(())
 }
 
 /// A line for each step, and then one for each link.

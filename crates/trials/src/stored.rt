@@ -22,7 +22,7 @@ pub struct Stored<'a> {
 }
 
 fn kind_of(word: &[u8]) -> Kind {
-    if word == b"counter" {
+    if word == b"counter".as_slice() {
         Kind::Counter
     } else {
         Kind::Pointers

@@ -55,7 +55,7 @@ pub fn change(changes: &[u8], actors: &mut [Actor], links: &mut [Link]) {
         if words.is_empty() {
             break;
         }
-        if words.word() == b"a" {
+        if words.word() == b"a".as_slice() {
             change_actor(&mut words, actors);
         } else {
             change_link(&mut words, links);
