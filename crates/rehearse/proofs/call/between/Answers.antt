@@ -5,14 +5,14 @@ use Rattle.rehearse.specs.Calls.{and_then, before_feed}
 use Rattle.rehearse.proofs.Strips.{after_is, before_feed_is}
 use Rattle.rehearse.proofs.call.between.Goals as goal
 
-pub returns-in-err-rest : goal.returns-in-err-rest
-returns-in-err-rest c =
-    ap (option_map (λ x. x.now)) c.from-residual.ensures
+pub returns-in_err-rest : goal.returns-in_err-rest
+returns-in_err-rest c =
+    ap (option_map (λ x. x.now)) c.from_residual.ensures
     ∙ ap (λ (o : Option (List ℕ)). and_then o before_feed)
-    (after_is c.args.line.now c.args.word.now None c.in-err-rest.ensures.cases)
+    (after_is c.args.line.now c.args.word.now None c.in_err-rest.ensures.cases)
 
 pub returns : goal.returns
 returns c =
-    before_feed_is c.in-ok-rest.rest.now c.strip-suffix.result c.strip-suffix.ensures.cases
+    before_feed_is c.in_ok-rest.rest.now c.strip_suffix.result c.strip_suffix.ensures.cases
     ∙ ap (λ (o : Option (List ℕ)). and_then o before_feed)
-    (after_is c.args.line.now c.args.word.now (Some c.in-ok-rest.rest) c.in-ok-rest.ensures.cases)
+    (after_is c.args.line.now c.args.word.now (Some c.in_ok-rest.rest) c.in_ok-rest.ensures.cases)

@@ -5,29 +5,29 @@ use Rattle.rehearse.specs.Calls.{call_of}
 use Rattle.rehearse.proofs.Lines.{bad_here, bad_later, bad_end}
 use Rattle.rehearse.proofs.calls.bad_line.Goals as goal
 
-pub returns-then-is-none : goal.returns-then-is-none
-returns-then-is-none c =
+pub returns-then-is_none : goal.returns-then-is_none
+returns-then-is_none c =
     let h : 0 < length c.loop-rest.rest.now = grind (arith, nat_tests) in
-    let b : is_some (call_of c.split-line.result.0.now) ≡ false
-    = ap is_some (sym c.call_of.ensures) ∙ c.if-is-none.ensures in
-    sym (bad_here c.loop-rest.number c.loop-rest.rest.now c.split-line.result.0.now h c.split-line.ensures.line b)
+    let b : is_some (call_of c.split_line.result.0.now) ≡ false
+    = ap is_some (sym c.call_of.ensures) ∙ c.if-is_none.ensures in
+    sym (bad_here c.loop-rest.number c.loop-rest.rest.now c.split_line.result.0.now h c.split_line.ensures.line b)
     ∙ c.loop-rest.invariant.0
 
 pub loop-rest-smaller : goal.loop-rest-smaller
 loop-rest-smaller c =
     let h : 0 < length c.loop-rest.rest.now = grind (arith, nat_tests) in
-    c.split-line.ensures.shorter h
+    c.split_line.ensures.shorter h
 
 pub loop-rest-preserved : goal.loop-rest-preserved
 loop-rest-preserved c =
     let h : 0 < length c.loop-rest.rest.now = grind (arith, nat_tests) in
-    let b : is_some (call_of c.split-line.result.0.now) ≡ true
-    = ap is_some (sym c.call_of.ensures) ∙ c.if-is-none.ensures in (
+    let b : is_some (call_of c.split_line.result.0.now) ≡ true
+    = ap is_some (sym c.call_of.ensures) ∙ c.if-is_none.ensures in (
       sym
-          (bad_later c.loop-rest.number c.loop-rest.rest.now c.split-line.result.0.now c.split-line.result.1.now h
-          c.split-line.ensures.line c.split-line.ensures.after b)
+          (bad_later c.loop-rest.number c.loop-rest.rest.now c.split_line.result.0.now c.split_line.result.1.now h
+          c.split_line.ensures.line c.split_line.ensures.after b)
           ∙ c.loop-rest.invariant.0,
-      omega (arith, c.split-line.ensures.shorter h, c.loop-rest.invariant.1),
+      omega (arith, c.split_line.ensures.shorter h, c.loop-rest.invariant.1),
     )
 
 pub returns : goal.returns

@@ -4,63 +4,63 @@ use Rattle.running.specs.declared.Step.{Step}
 use Rattle.rehearse.specs.Holding.{is_start, is_finish, count, held_after, Most}
 use Rattle.rehearse.proofs.Counting.{count_most, counted, passed_over, most_more}
 use Rattle.rehearse.proofs.holding.holding_of.Goals as goal
-use Rattle.rehearse.proofs.holding.holding_of.Goals.{then-is-start, else-is-start, then-is-finish, else-is-finish}
+use Rattle.rehearse.proofs.holding.holding_of.Goals.{then-is_start, else-is_start, then-is_finish, else-is_finish}
 
-pub overflow-add-made : goal.overflow-add-made
-overflow-add-made c =
+pub overflow_add-made : goal.overflow_add-made
+overflow_add-made c =
     let m = count_most (is_start c.args.link.sender) (take c.loop-step.step-index c.args.steps.now) in
     let t = length-take c.loop-step.step-index c.args.steps.now in
     omega (arith, c.loop-step.invariant.0)
 
-pub overflow-add-used : goal.overflow-add-used
-overflow-add-used c =
+pub overflow_add-used : goal.overflow_add-used
+overflow_add-used c =
     let m = count_most (is_finish c.args.link.receiver) (take c.loop-step.step-index c.args.steps.now) in
     let t = length-take c.loop-step.step-index c.args.steps.now in
     omega (arith, c.loop-step.invariant.1)
 
 made : (c : goal.After-max-most)
-    → c.if-is-start.made
+    → c.if-is_start.made
     ≡ c.args.link.delay + count (is_start c.args.link.sender) (take (c.loop-step.step-index + 1) c.args.steps.now)
 made c =
-    elim c.if-is-start.branch [
-      | then-is-start w ↦
+    elim c.if-is_start.branch [
+      | then-is_start w ↦
           omega (
             arith,
             w.made-is,
             c.loop-step.invariant.0,
             counted (is_start c.args.link.sender) c.args.steps.now c.loop-step.step-index _ c.loop-step-test.true
-                w.if-is-start.ensures,
+                w.if-is_start.ensures,
           )
-      | else-is-start w ↦
+      | else-is_start w ↦
           omega (
             arith,
             w.made-is,
             c.loop-step.invariant.0,
             passed_over (is_start c.args.link.sender) c.args.steps.now c.loop-step.step-index _ c.loop-step-test.true
-                w.if-is-start.ensures,
+                w.if-is_start.ensures,
           )
     ]
 
 used : (c : goal.After-max-most)
-    → c.if-is-finish.used
+    → c.if-is_finish.used
     ≡ count (is_finish c.args.link.receiver) (take (c.loop-step.step-index + 1) c.args.steps.now)
 used c =
-    elim c.if-is-finish.branch [
-      | then-is-finish w ↦
+    elim c.if-is_finish.branch [
+      | then-is_finish w ↦
           omega (
             arith,
             w.used-is,
             c.loop-step.invariant.1,
             counted (is_finish c.args.link.receiver) c.args.steps.now c.loop-step.step-index _ c.loop-step-test.true
-                w.if-is-finish.ensures,
+                w.if-is_finish.ensures,
           )
-      | else-is-finish w ↦
+      | else-is_finish w ↦
           omega (
             arith,
             w.used-is,
             c.loop-step.invariant.1,
             passed_over (is_finish c.args.link.receiver) c.args.steps.now c.loop-step.step-index _
-                c.loop-step-test.true w.if-is-finish.ensures,
+                c.loop-step-test.true w.if-is_finish.ensures,
           )
     ]
 
