@@ -5,7 +5,7 @@ use Rattle.std.proofs.lemmas.List.{length-map, length-take, length-take-le}
 use Rattle.std.proofs.lemmas.Bool.{cases_lt, cases_Bool, cond-true, cond-false, or_left, or_right, or_cases, eq-eqb, ne_eqb, eqb-true}
 use Rattle.records.specs.declared.tables.Edge.{Edge}
 use Rattle.records.specs.declared.tables.Link.{Link}
-use Rattle.records.specs.Tables.{no_link, edge, link_edge, processor_of}
+use Rattle.records.specs.Tables.{no_link, link_edge, processor_of}
 use Rattle.waits.specs.Counting.{count}
 use Rattle.waits.specs.Events.{Follows, Enforced, Event, starts, finishes, In, Lawful, Obeys, ObeysAll, Path, Live, place, chosen}
 use Rattle.waits.proofs.Paths.{in-++, path_over_more}

@@ -1,5 +1,5 @@
 -- What a link holds, one step after the other.
-use Rattle.std.proofs.Common.{◌≡◌, ℕ, ◌+◌, ◌-◌, ◌<◌, ◌≤◌, max, Bool, true, false, cond, ◌⊎◌, List, [], ◌∷◌, ◌++◌, length, get_or, take, sym, refl, ap, ◌∙◌, subst, inl, inr, ⊎_elim, arith, length-append, take_all}
+use Rattle.std.proofs.Common.{◌≡◌, ℕ, ◌+◌, ◌<◌, ◌≤◌, max, Bool, true, false, cond, List, [], ◌∷◌, ◌++◌, length, get_or, take, sym, ap, ◌∙◌, subst, ⊎_elim, arith, length-append, take_all}
 use native.Mathlib.Nat.{le-max_left, le-max_right, max-eq_left, max-eq_right}
 use lib.Seq.{take-append-le}
 use Rattle.std.proofs.lemmas.List.{take_more}
@@ -8,7 +8,7 @@ use Rattle.records.specs.declared.tables.Link.{Link}
 use Rattle.running.specs.declared.Answer.TheVariants.{Open}
 use Rattle.running.specs.declared.Call.TheVariants.{Start}
 use Rattle.running.specs.declared.Step.{Step}
-use Rattle.rehearse.specs.Holding.{is_start, is_finish, count, held_after, Most}
+use Rattle.rehearse.specs.Holding.{count, held_after, Most}
 
 count_push : (f : Step → Bool) (xs : List Step) (x : Step) → count f (xs ++ x ∷ []) ≡ count f xs + cond (f x) 1 0
 count_push f [] x = omega arith

@@ -1,5 +1,5 @@
 -- An unsound run refuses every call and changes nothing.
-use Rattle.std.proofs.Common.{◌≡◌, ℕ, List, [], ◌∷◌, map, Some, Err, Option, sym, refl, ap, ◌∙◌, subst}
+use Rattle.std.proofs.Common.{◌≡◌, ℕ, List, [], ◌∷◌, map, Some, Err, refl, ap, ◌∙◌}
 use Rattle.records.specs.declared.fault.Fault.{Fault}
 use Rattle.running.specs.declared.Act.{Act}
 use Rattle.running.specs.declared.Act.TheVariants.{Start as Starts, Finish as Finishes}

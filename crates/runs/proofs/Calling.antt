@@ -1,12 +1,12 @@
 -- Calls one after the other: what is answered, how the run stands, and which guards are left alone.
-use Rattle.std.proofs.Common.{◌≡◌, ℕ, zero, suc, ◌+◌, ◌<◌, Bool, true, false, ◌&&◌, eqb, List, [], ◌∷◌, ◌++◌, length, get_or, take, drop, set, Some, None, Ok, Err, Option, Result, sym, refl, ap, ◌∙◌, arith}
+use Rattle.std.proofs.Common.{◌≡◌, ℕ, zero, suc, ◌+◌, ◌<◌, Bool, false, ◌&&◌, eqb, List, [], ◌∷◌, ◌++◌, length, get_or, take, drop, set, Some, None, Ok, Err, Option, Result, refl, ap, ◌∙◌, arith}
 use Rattle.records.specs.declared.fault.Fault.{Fault}
 use Rattle.records.specs.declared.tables.Link.{Link}
 use Rattle.records.specs.Tables.{no_link}
 use Rattle.running.specs.declared.Act.{Act}
 use Rattle.running.specs.declared.Step.{Step}
 use Rattle.running.specs.Rehearsals.{answered, after_call, carried, carried_to}
-use Rattle.running.specs.Rows.{guarded, concerns, end_of}
+use Rattle.running.specs.Rows.{end_of}
 use Rattle.running.specs.Runs.{Site, Standing, act_check}
 use Rattle.running.proofs.Unsound.{no_act}
 use Rattle.runs.specs.Alone.{Stand, guarded_if, moved_if}

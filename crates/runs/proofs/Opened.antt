@@ -1,13 +1,13 @@
 -- What an opening without fault leaves known.
-use Rattle.std.proofs.Common.{◌≡◌, ℕ, zero, suc, ◌+◌, ◌<◌, ◌≤◌, Bool, true, false, not, ◌&&◌, ◌||◌, eqb, ltb, leb, List, [], ◌∷◌, length, get_or, take, is_some, Ok, Err, Option, Result, sym, refl, ap, ◌∙◌, arith}
+use Rattle.std.proofs.Common.{◌≡◌, ℕ, zero, suc, ◌+◌, ◌<◌, ◌≤◌, Bool, true, false, not, ◌&&◌, ◌||◌, eqb, ltb, leb, List, [], ◌∷◌, length, get_or, take, is_some, Ok, Err, Option, Result, refl, ap, ◌∙◌, arith}
 use Rattle.std.proofs.lemmas.List.{length-take-le}
-use Rattle.std.proofs.lemmas.Bool.{or_parts, or_from, ltb-false, leb-false, le-ltb, eqb-false, ne_eqb}
+use Rattle.std.proofs.lemmas.Bool.{or_parts, or_from, ltb-false, leb-false, eqb-false, ne_eqb}
 use Rattle.records.specs.declared.fault.Fault.{Fault}
 use Rattle.records.specs.declared.fault.Layer.TheVariants.{Run}
 use Rattle.records.specs.declared.tables.Actor.{Actor}
 use Rattle.records.specs.declared.tables.Link.{Link}
 use Rattle.records.specs.Faults.{fault}
-use Rattle.records.specs.Tables.{no_link, processor_of}
+use Rattle.records.specs.Tables.{no_link}
 use Rattle.planning.specs.Checks.{refuse_if, refuse_first}
 use Rattle.planning.specs.Planning.{Totals, planned}
 use Rattle.planning.proofs.Passing.{first_ok, next_ok, passed, none_bad}

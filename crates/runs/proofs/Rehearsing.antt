@@ -1,5 +1,5 @@
 -- A drawing planned and run: what planning's answer makes of it, and the law of its run.
-use Rattle.std.proofs.Common.{◌≡◌, ℕ, ◌+◌, false, List, take, IfOk, None, Ok, Err, Result, sym, refl, ap, ◌∙◌, subst, arith}
+use Rattle.std.proofs.Common.{◌≡◌, ℕ, ◌+◌, List, take, IfOk, None, Ok, Err, Result, sym, ap, ◌∙◌, subst, arith}
 use Rattle.records.specs.declared.fault.Fault.{Fault}
 use Rattle.records.specs.declared.tables.Link.{Link}
 use Rattle.planning.specs.Planning.{Given, Totals, planned}

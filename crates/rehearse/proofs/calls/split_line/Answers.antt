@@ -1,5 +1,5 @@
 -- Each turn passes one byte that is no line feed.
-use Rattle.std.proofs.Common.{◌≡◌, ℕ, ◌+◌, ◌-◌, ◌<◌, ◌≤◌, List, length, take, drop, sym, ap, ◌∙◌, arith, length-drop, take_all, rules}
+use Rattle.std.proofs.Common.{◌≡◌, ℕ, ◌+◌, ◌-◌, ◌≤◌, List, length, take, drop, sym, ap, ◌∙◌, arith, length-drop, take_all, rules}
 use Rattle.std.proofs.lemmas.List.{at_drop_all, take_rest}
 use Rattle.reader.specs.Lines.{line_size}
 use Rattle.reader.proofs.Lines.{size_step, size_stop, size_end}

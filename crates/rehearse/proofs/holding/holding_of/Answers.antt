@@ -1,5 +1,5 @@
 -- Each turn counts one step more.
-use Rattle.std.proofs.Common.{◌≡◌, ℕ, ◌+◌, ◌-◌, max, List, length, take, ap, ◌∙◌, subst, arith, length-take, take_all}
+use Rattle.std.proofs.Common.{◌≡◌, ◌+◌, max, List, take, ap, subst, arith, length-take, take_all}
 use Rattle.running.specs.declared.Step.{Step}
 use Rattle.rehearse.specs.Holding.{is_start, is_finish, count, held_after, Most}
 use Rattle.rehearse.proofs.Counting.{count_most, counted, passed_over, most_more}

@@ -1,7 +1,6 @@
-use Rattle.std.proofs.Common.{◌≡◌, ◌+◌, true, false, take, Ok, Err, sym, ap, ◌∙◌}
+use Rattle.std.proofs.Common.{◌+◌, take, Err, sym, ap, ◌∙◌}
 use Rattle.records.specs.declared.fault.Layer.TheVariants.{Run}
 use Rattle.records.specs.Faults.{fault, then}
-use Rattle.planner.specs.Slips.{totals_of}
 use Rattle.planning.specs.Checks.{refuse_if, refuse_first}
 use Rattle.running.specs.Runs.{open_check, unfit_link}
 use Rattle.runs.proofs.checks.check_open.Goals as goal

@@ -4,7 +4,7 @@ use Rattle.records.specs.declared.tables.Link.{Link}
 use Rattle.records.specs.Faults.{told}
 use Rattle.planning.specs.Planning.{drawing, planned}
 use Rattle.planner.specs.declared.plans.Slip.{Slip}
-use Rattle.planner.specs.Slips.{totals_of, slip_answer, slip_values}
+use Rattle.planner.specs.Slips.{totals_of, slip_values}
 use Rattle.running.specs.declared.Step.{Step}
 use Rattle.running.specs.Rehearsals.{Rehearsed, answer_values, carried, carried_to, rehearsed}
 use Rattle.running.specs.Runs.{site_of, opened}

@@ -1,5 +1,4 @@
-use Rattle.std.proofs.Common.{◌≡◌, List, map, take, sym, ap, ◌∙◌, subst, rules}
-use Rattle.records.specs.declared.tables.Link.{Link}
+use Rattle.std.proofs.Common.{◌≡◌, map, ap, ◌∙◌, subst, rules}
 use Rattle.planner.specs.Slips.{totals_of}
 use Rattle.running.specs.Rehearsals.{carried, carried_to}
 use Rattle.running.specs.Runs.{Site, Standing, site, site_of, standing, opened}

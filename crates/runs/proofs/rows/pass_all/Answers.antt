@@ -1,7 +1,7 @@
-use Rattle.std.proofs.Common.{◌≡◌, ◌<◌, map, length, sym, ap, ◌∙◌, arith, length-set}
+use Rattle.std.proofs.Common.{◌<◌, map, length, ◌∙◌, arith, length-set}
 use lib.ListN.{length-map}
 use Rattle.running.specs.Rows.{concerns, passes}
-use Rattle.runs.proofs.Linkwise.{level_read, rewritten, each_all}
+use Rattle.runs.proofs.Linkwise.{rewritten, each_all}
 use Rattle.runs.proofs.LeftAlone.{stand_more}
 use Rattle.runs.proofs.rows.pass_all.Goals as goal
 

@@ -1,4 +1,4 @@
-use Rattle.std.proofs.Common.{◌≡◌, map, sym, refl, ap, ◌∙◌}
+use Rattle.std.proofs.Common.{map, sym, ap, ◌∙◌}
 use Rattle.running.specs.declared.Act.TheVariants.{Start, Finish}
 use Rattle.running.specs.Rehearsals.{done_or_refused, answer_to, after_call}
 use Rattle.running.specs.Runs.{site, standing}

@@ -1,4 +1,4 @@
-use Rattle.std.proofs.Common.{◌≡◌, ◌++◌, map, length, take, drop}
+use Rattle.std.proofs.Common.{◌≡◌, ◌++◌, map, take, drop}
 use Rattle.running.specs.Rehearsals.{carried, carried_to}
 use Rattle.running.specs.Runs.{site, standing}
 use Rattle.runs.specs.Alone.{Stand, guarded_if}

@@ -1,6 +1,5 @@
-use Rattle.std.proofs.Common.{◌≡◌, ◌+◌, ◌≤◌, false, List, length, take, is_some, Ok, sym, ap, ◌∙◌, subst}
+use Rattle.std.proofs.Common.{◌≡◌, ◌≤◌, false, List, length, take, is_some, Ok, sym, ap, ◌∙◌, subst}
 use Rattle.records.specs.declared.tables.Actor.{Actor}
-use Rattle.records.specs.declared.tables.Link.{Link}
 use Rattle.planner.specs.Slips.{totals_of}
 use Rattle.running.specs.Runs.{fault_of, open_check}
 use Rattle.runs.specs.Openings.{GuardsFit, ProcessorsLow, EndsLow, HasCells}
