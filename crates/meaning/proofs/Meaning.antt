@@ -15,7 +15,7 @@ use Rattle.planning.specs.Backs.{backs_among, backs}
 use Rattle.planning.specs.Edges.{orders, without}
 use Rattle.planning.specs.Marks.{local, redundant, mark_of}
 use Rattle.planning.specs.Planning.{Given, tables_check, edges_with, plan_ground, all_links, back_links, plan_delays}
-use Rattle.meaning.specs.Promises.{given_edges, plan_edges, mark_at, size_at, waited, waited_edges, Cross, Crossing, Replaced, Brief, PlanMeans}
+use Rattle.meaning.specs.Promises.{given_edges, plan_edges, mark_at, size_at, waited, waited_edges, Cross, Crossing, Replaced, Brief, BrieflyFull, PlanMeans}
 use Rattle.meaning.specs.Components.{Reaches}
 use Rattle.meaning.proofs.Chosen.{in_left, in_right, in_more, in_place, chosen_part}
 use Rattle.meaning.proofs.Covers.{Covers}
@@ -222,8 +222,7 @@ module _ (d : Given) (ok : tables_check d ≡ Ok tt) (live : Live (edges_with d 
         let f = fine i x.below in
         omega (arith, size_is, never_further (length d.actors) (edges_with d (all_links d)) (all_small d ok) (place (plan_edges d) i).sender (place (plan_edges d) i).receiver f.0 f.1 (omega (arith, back_number i x.below)) xs follow.lawful (obeys_all xs follow) k)
 
-    briefly_full : (xs : List Event) × Follows d.actors (waited_edges d) xs × Brief d 64000 xs
-        × ((place (plan_edges d) i).delay + starts (place (plan_edges d) i).sender xs ≡ finishes (place (plan_edges d) i).receiver xs + size_at d i)
+    pub briefly_full : BrieflyFull d i
     unfolding back_of
     briefly_full =
         let f = fine i x.below in
@@ -290,5 +289,4 @@ module _ (d : Given) (ok : tables_check d ≡ Ok tt) (live : Live (edges_with d 
     cells_few = cells_few;
     never_overfull = never_overfull;
     can_be_full = can_be_full;
-    briefly_full = briefly_full;
   }

@@ -9,10 +9,10 @@ use Rattle.records.specs.Tables.{link_edge}
 use Rattle.paths.specs.declared.delay.Delay.{Delay}
 use Rattle.planning.specs.Marks.{numbered, mark_link, marked, sized}
 use Rattle.planning.specs.Planning.{Given, Totals, Outcome, tables_check, cycles_check, refused, deadlocked, accepted, unless, back_links, plan_delays, plan_links, plan_totals, planned}
-use Rattle.meaning.specs.Promises.{plan_edges, CostsMean, Found, PlanMeans, Promise}
+use Rattle.meaning.specs.Promises.{plan_edges, Crossing, BrieflyFull, CostsMean, Found, PlanMeans, Promise}
 use Rattle.meaning.proofs.Charges.{costs_mean}
 use Rattle.meaning.proofs.Deadlocks.{deadlock_exactly, passes_cycles}
-use Rattle.meaning.proofs.Meaning.{plan_means}
+use Rattle.meaning.proofs.Meaning.{briefly_full, plan_means}
 use Rattle.meaning.proofs.OrderEdges.{order_if_in, in_if_order}
 use Rattle.meaning.proofs.PlanBacks.{alive, needed, crosses, returns, backs_mean}
 
@@ -60,6 +60,9 @@ module _ (d : Given) (t : Totals) (e : (planned d).answer ≡ Ok t) where
 
   means : PlanMeans d
   means = plan_means d ok (alive d ok free) (needed d ok) (returns d ok) (crosses d ok)
+
+  pub briefly : (i : ℕ) → Crossing d i → BrieflyFull d i
+  briefly = briefly_full d ok (alive d ok free) (needed d ok) (returns d ok) (crosses d ok)
 
   -- what it answered are the totals of the plan
   pub totals : plan_totals d ≡ t

@@ -102,6 +102,12 @@ pub record Brief (d : Given) (most : ℕ) (xs : List Event) : Type 0 where
   pub few : (x : ℕ) → starts x xs ≤ most
   pub outside : (x : ℕ) → length d.actors ≤ x → (starts x xs ≡ 0) × (finishes x xs ≡ 0)
 
+-- some brief list fills the link exactly
+abbrev pub BrieflyFull : Given → ℕ → Type 0
+BrieflyFull d i =
+    (xs : List Event) × Follows d.actors (waited_edges d) xs × Brief d 64000 xs
+    × ((place (plan_edges d) i).delay + starts (place (plan_edges d) i).sender xs ≡ finishes (place (plan_edges d) i).receiver xs + size_at d i)
+
 -- what the plan of an accepted drawing means
 pub record PlanMeans (d : Given) : Type 0 where
   -- back links create no deadlock
@@ -129,9 +135,6 @@ pub record PlanMeans (d : Given) : Type 0 where
       → (place (plan_edges d) i).delay + starts (place (plan_edges d) i).sender (take k xs) ≤ finishes (place (plan_edges d) i).receiver (take k xs) + size_at d i
   -- and some list fills it exactly
   pub can_be_full : (i : ℕ) → Crossing d i → (xs : List Event) × Follows d.actors (waited_edges d) xs
-      × ((place (plan_edges d) i).delay + starts (place (plan_edges d) i).sender xs ≡ finishes (place (plan_edges d) i).receiver xs + size_at d i)
-  -- a brief one does
-  pub briefly_full : (i : ℕ) → Crossing d i → (xs : List Event) × Follows d.actors (waited_edges d) xs × Brief d 64000 xs
       × ((place (plan_edges d) i).delay + starts (place (plan_edges d) i).sender xs ≡ finishes (place (plan_edges d) i).receiver xs + size_at d i)
 
 -- what the back links of an accepted drawing are, and what they do

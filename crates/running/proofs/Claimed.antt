@@ -13,6 +13,7 @@ use Rattle.running.specs.Claims.{brings_if, events, level_at, call, Law, Fills, 
 use Rattle.running.proofs.Telling.{Tells}
 use Rattle.running.proofs.Carrying.{Carried, carried_none, carried_on}
 use Rattle.running.proofs.Accepting.{Fair, all_accepted}
+use Rattle.meaning.proofs.Promised.{briefly}
 use Rattle.running.proofs.PlanLinks.{means, edges_long}
 use Rattle.running.proofs.Opening.{site_is, fits, stands, opened_stands, unsound_row}
 use Rattle.running.proofs.Others.{calls_stand}
@@ -76,7 +77,7 @@ module _ (d : Given) (t : Totals) (e : (planned d).answer ≡ Ok t) where
 
     fills : (i : ℕ) → Crossing d i → Fills d t now i
     fills i x =
-        let (xs, follows, brief, full) = (means d t e).briefly_full i x in
+        let (xs, follows, brief, full) = briefly d t e i x in
         record {
           list = xs;
           all_accepted = accepts [] xs follows (record { few = λ a. omega (arith, brief.few a); outside = brief.outside });
