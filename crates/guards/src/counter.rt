@@ -1,6 +1,5 @@
 // A guard that counts the values that wait.
-ghost use Rattle.std.specs.Prelude.{◌≤◌};
-ghost use Rattle.std.proofs.Common.{rules, arith};
+ghost use Rattle.std.specs.Prelude.{◌≤◌, refl};
 
 use crate::guard::Guard;
 use crate::limit::{Bound, UpTo};
@@ -26,11 +25,11 @@ impl Guard for Counter {
 
     ghost level = { λ g. record { count = g.count; size = g.size } };
 
-    ghost limit = { first_of (Prim.search rules, Prim.grind (arith, Self.row.coded.inj)) };
+    ghost limit = { refl };
 
-    ghost within = { first_of (Prim.search rules, Prim.grind (arith, Self.row.coded.inj)) };
+    ghost within = { λ g. g.within };
 
-    ghost fits = { first_of (Prim.search rules, Prim.grind (arith, Self.row.coded.inj)) };
+    ghost fits = { λ g. g.fits };
 
     fn fresh(count: u32, size: u32) -> Result<Counter, Fault> {
         if refusal::unfit(Self::LARGEST.value(), count, size) {

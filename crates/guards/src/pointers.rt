@@ -1,7 +1,6 @@
 // A guard of two pointers that go round a circle.
-ghost use Rattle.std.specs.Prelude.{◌≡◌, ◌≤◌};
-ghost use Rattle.guards.specs.Circle.{between, turned};
-ghost use Rattle.std.proofs.Common.{rules, arith};
+ghost use Rattle.std.specs.Prelude.{◌≡◌, ◌≤◌, refl};
+ghost use Rattle.guards.specs.Circle.{between, between_le, turned};
 
 use crate::guard::Guard;
 use crate::limit::{Bound, UpTo};
@@ -37,11 +36,11 @@ impl Guard for Pointers {
 
     ghost level = { λ g. record { count = between g.read g.write g.size; size = g.size } };
 
-    ghost limit = { first_of (Prim.search rules, Prim.grind (arith, Self.row.coded.inj)) };
+    ghost limit = { refl };
 
-    ghost within = { first_of (Prim.search rules, Prim.grind (arith, Self.row.coded.inj)) };
+    ghost within = { λ g. between_le g.read g.write g.size g.reads g.writes };
 
-    ghost fits = { first_of (Prim.search rules, Prim.grind (arith, Self.row.coded.inj)) };
+    ghost fits = { λ g. g.fits };
 
     fn fresh(count: u32, size: u32) -> Result<Pointers, Fault> {
         if refusal::unfit(Self::LARGEST.value(), count, size) {
