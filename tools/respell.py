@@ -13,7 +13,7 @@ import sys
 
 WORD = r"[A-Za-z_ℕℤ][A-Za-z0-9_ℕℤ⊎']*"
 DASHED = WORD + r"(?:-[A-Za-z0-9_ℕℤ⊎'+*]+)+"
-TOKEN = re.compile(r"[A-Za-z_ℕℤ][A-Za-z0-9_ℕℤ⊎'·-]*(?:-[+*]+)?|[A-Za-z_]")
+TOKEN = re.compile(WORD.replace("']*", "'·]*") + r"(?:-[A-Za-z0-9_ℕℤ⊎'·]+)*(?:-[+*]+)?")
 FOLDER_FILES = ("Answers.antt", "Invariants.antt", "Proof.antt")
 KEYWORDS = r"(?:(?:abbrev|unfoldable|pub|data|record|mutual)\s+)*"
 

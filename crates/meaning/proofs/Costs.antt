@@ -31,9 +31,9 @@ link_cost_most l = cond_both (eqb l.mark 1 || eqb l.mark 3) 2 0 (λ x. x ≤ 2) 
 local_cost : (l : Link) → l.mark ≡ 2 → link_cost_after l ≡ 0
 local_cost l e = ap (λ k. cond (eqb k 1 || eqb k 3) 2 0) e
 
-cost-after-++ : (ls ms : List Link) → cost_after (ls ++ ms) ≡ cost_after ls + cost_after ms
-cost-after-++ [] ms = omega arith
-cost-after-++ (l ∷ ls) ms = omega (arith, cost-after-++ ls ms)
+cost_after-++ : (ls ms : List Link) → cost_after (ls ++ ms) ≡ cost_after ls + cost_after ms
+cost_after-++ [] ms = omega arith
+cost_after-++ (l ∷ ls) ms = omega (arith, cost_after-++ ls ms)
 
 cost_after_most : (ls : List Link) → cost_after ls ≤ 2 * length ls
 cost_after_most [] = omega arith
@@ -63,7 +63,7 @@ module _ (g : Ground) (es : List Edge) (known : Known g es) (ls : List Link) (co
   pub cost_no_more : (lead : ℕ) (ms bs : List Link) → LocalMarked g.actors ls ms → length bs ≤ length (backs_among g lead (range_with_len 0 n))
       → cost_after (ms ++ bs) ≤ cost_before g.actors n g.delays ls
   cost_no_more lead ms bs h few =
-      omega (arith, cost-after-++ ms bs, cost_after_most bs, given_cost g ls ms h, backs_between g es known ls covered lead)
+      omega (arith, cost_after-++ ms bs, cost_after_most bs, given_cost g ls ms h, backs_between g es known ls covered lead)
 
   length_backs : (lead : ℕ) → length (backs g lead) ≤ length (backs_among g lead (range_with_len 0 n))
   unfolding backs
