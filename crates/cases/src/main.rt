@@ -4,39 +4,23 @@
 mod blocks;
 mod trial;
 
-use blocks::Blocks;
-use paths::{Delay, Reach};
-use records::{Actor, Link};
+use blocks::next_case;
 use std::{fs, io};
-use trial::{Memory, agrees};
+use trial::Memory;
+use words::Words;
 
 fn main(rt: HostRuntime) -> io::Result<()> {
     let data = fs::read(&rt, "cases.txt")?;
-    let mut memory = Memory {
-        actors: [Actor {
-            processor: 0,
-            estimate: 0,
-        }; 128],
-        links: [Link {
-            sender: 0,
-            receiver: 0,
-            delay: 0,
-            mark: 0,
-            size: 0,
-        }; 512],
-        delays: [Delay { value: 0 }; 8192],
-        reach: [Reach { yes: false }; 8192],
-        out: [0; 32768],
-    };
-    let mut blocks = Blocks::new(data.as_slice());
+    let mut file = Words::new(data.as_slice());
+    let mut memory = Memory::new();
     let mut tried = 0u32;
     let mut agreed = 0u32;
     for _ in 0..data.len() {
-        let Some(case) = blocks.next_case() else {
+        let Some(case) = next_case(&mut file) else {
             break;
         };
         tried = tried.saturating_add(1);
-        if agrees(&case, &mut memory) {
+        if memory.agrees(&case) {
             agreed = agreed.saturating_add(1);
         }
     }

@@ -1,10 +1,9 @@
 // A guard that counts the values that wait.
-ghost use Rattle.std.specs.Prelude.{◌≤◌, refl};
+ghost use Rattle.std.specs.Prelude.{◌≤◌};
 
 use crate::guard::Guard;
-use crate::limit::{Bound, UpTo};
-use crate::refusal;
-use records::Fault;
+use crate::refusal::{refused, unfit};
+use records::{Fault, Refusal};
 
 /// A guard that counts the values that wait, in 16 bits.
 #[derive(Clone, Copy, PartialEq, Eq, Debug)]
@@ -17,23 +16,19 @@ pub struct Counter {
 
 /// As many values wait as were counted.
 impl Guard for Counter {
-    type Limit = UpTo<65535>;
+    const LARGEST: u32 = 65535;
 
-    const LARGEST: Self::Limit = UpTo;
-
-    ghost largest = { 65535 };
+    ghost LARGEST = { 65535 };
 
     ghost level = { λ g. record { count = g.count; size = g.size } };
-
-    ghost limit = { refl };
 
     ghost within = { λ g. g.within };
 
     ghost fits = { λ g. g.fits };
 
     fn fresh(count: u32, size: u32) -> Result<Counter, Fault> {
-        if refusal::unfit(Self::LARGEST.value(), count, size) {
-            return Err(refusal::UNFIT);
+        if unfit(Self::LARGEST, count, size) {
+            return Err(refused(Refusal::UnfitLevel));
         }
         Ok(Counter {
             count: count as u16,
@@ -47,7 +42,7 @@ impl Guard for Counter {
 
     fn take(&mut self) -> Result<(), Fault> {
         if self.count == 0 {
-            return Err(refusal::EMPTY);
+            return Err(refused(Refusal::Empty));
         }
         self.count -= 1;
         Ok(())
@@ -55,7 +50,7 @@ impl Guard for Counter {
 
     fn send(&mut self) -> Result<(), Fault> {
         if self.count == self.size {
-            return Err(refusal::FULL);
+            return Err(refused(Refusal::Full));
         }
         self.count += 1;
         Ok(())

@@ -3,26 +3,22 @@ ghost use Rattle.std.specs.Prelude.{◌≡◌, ℕ, ◌≤◌, true, false, []};
 ghost use Rattle.records.specs.Faults.{told};
 ghost use Rattle.guards.specs.Levels.{Level, level_values, waiting, full, taken, sent, take_answer, send_answer, fresh_answer, meant};
 
-use crate::limit::Bound;
 use records::Fault;
 
 /// How many values wait on a link, out of how many there can be. No value itself is kept.
 pub trait Guard: Copy {
-    /// The type of `LARGEST`, which has its number.
-    type Limit: Bound;
-
     /// The largest size that this kind can keep.
-    const LARGEST: Self::Limit;
+    const LARGEST: u32;
 
-    ghost largest: { ℕ };
+    ghost LARGEST: { ℕ };
 
     ghost level: { Self → Level };
 
     /// Answers a guard where `count` values wait out of `size`.
     /// Refuses with 24 where the size is 0 or above the largest, or the count is above the size.
     fn fresh(count: u32, size: u32) -> Result<Self, Fault>
-        ensures answer { meant level result ≡ fresh_answer largest count size }
-        ensures view { told level_values (meant level result) ≡ told level_values (fresh_answer largest count size) };
+        ensures answer { meant level result ≡ fresh_answer LARGEST count size }
+        ensures view { told level_values (meant level result) ≡ told level_values (fresh_answer LARGEST count size) };
 
     /// Answers whether a value waits. Leaves the guard as it was.
     fn waiting(&self) -> bool
@@ -44,9 +40,7 @@ pub trait Guard: Copy {
         ensures level { level self.new ≡ sent (level self.old) }
         ensures kept { full (level self.old) ≡ true → self.new ≡ self.old };
 
-    ghost limit: { Self.Limit.Bound.most ≡ largest };
-
     ghost within: { (g : Self) → (level g).count ≤ (level g).size };
 
-    ghost fits: { (g : Self) → (level g).size ≤ largest };
+    ghost fits: { (g : Self) → (level g).size ≤ LARGEST };
 }

@@ -3,7 +3,6 @@
 
 mod counter;
 mod guard;
-mod limit;
 mod pointers;
 mod refusal;
 #[cfg(test)]
@@ -11,5 +10,4 @@ mod tests;
 
 pub use counter::Counter;
 pub use guard::Guard;
-pub use limit::{Bound, UpTo};
 pub use pointers::Pointers;

@@ -1,11 +1,10 @@
 // A guard of two pointers that go round a circle.
-ghost use Rattle.std.specs.Prelude.{◌≡◌, ◌≤◌, refl};
+ghost use Rattle.std.specs.Prelude.{◌≡◌, ◌≤◌};
 ghost use Rattle.guards.specs.Circle.{between, between_le, turned};
 
 use crate::guard::Guard;
-use crate::limit::{Bound, UpTo};
-use crate::refusal;
-use records::Fault;
+use crate::refusal::{refused, unfit};
+use records::{Fault, Refusal};
 
 /// A guard of two pointers: where the next value is read, and where the next one is written.
 /// Their circle has one place more than there can be values, so that full and empty differ; 16 bits count its places.
@@ -28,23 +27,19 @@ fn turned(place: u16, size: u16) -> u16
 
 /// The values that wait stand from the read pointer up to the write pointer.
 impl Guard for Pointers {
-    type Limit = UpTo<65534>;
+    const LARGEST: u32 = 65534;
 
-    const LARGEST: Self::Limit = UpTo;
-
-    ghost largest = { 65534 };
+    ghost LARGEST = { 65534 };
 
     ghost level = { λ g. record { count = between g.read g.write g.size; size = g.size } };
-
-    ghost limit = { refl };
 
     ghost within = { λ g. between_le g.read g.write g.size g.reads g.writes };
 
     ghost fits = { λ g. g.fits };
 
     fn fresh(count: u32, size: u32) -> Result<Pointers, Fault> {
-        if refusal::unfit(Self::LARGEST.value(), count, size) {
-            return Err(refusal::UNFIT);
+        if unfit(Self::LARGEST, count, size) {
+            return Err(refused(Refusal::UnfitLevel));
         }
         Ok(Pointers {
             read: 0,
@@ -59,7 +54,7 @@ impl Guard for Pointers {
 
     fn take(&mut self) -> Result<(), Fault> {
         if self.read == self.write {
-            return Err(refusal::EMPTY);
+            return Err(refused(Refusal::Empty));
         }
         self.read = turned(self.read, self.size);
         Ok(())
@@ -68,7 +63,7 @@ impl Guard for Pointers {
     fn send(&mut self) -> Result<(), Fault> {
         let next = turned(self.write, self.size);
         if next == self.read {
-            return Err(refusal::FULL);
+            return Err(refused(Refusal::Full));
         }
         self.write = next;
         Ok(())

@@ -1,26 +1,17 @@
 // What a guard refuses, and how it is told.
 ghost use Rattle.std.specs.Prelude.{◌≡◌};
 ghost use Rattle.guards.specs.Levels.{unfit};
+ghost use Rattle.records.specs.Faults.{fault};
+ghost use Rattle.records.specs.declared.fault.Layer.TheVariants.{Guard};
 
-use records::{Fault, Layer};
+use records::{Fault, Layer, Refusal};
 
-pub(crate) const EMPTY: Fault = Fault {
-    number: 22,
-    layer: Layer::Guard,
-    place: 0,
-};
-
-pub(crate) const FULL: Fault = Fault {
-    number: 23,
-    layer: Layer::Guard,
-    place: 0,
-};
-
-pub(crate) const UNFIT: Fault = Fault {
-    number: 24,
-    layer: Layer::Guard,
-    place: 0,
-};
+/// The refusal of a guard for this reason.
+pub(crate) fn refused(refusal: Refusal) -> Fault
+    ensures { result ≡ fault refusal Guard 0 }
+{
+    Fault::new(refusal, Layer::Guard, 0)
+}
 
 /// Whether no kind with this largest size can keep this count and size.
 pub(crate) fn unfit(largest: u32, count: u32, size: u32) -> bool

@@ -1,4 +1,3 @@
 pub mod Fitting
-pub mod Growing
 pub mod Passes
 pub mod Drawing

@@ -1,4 +1,3 @@
-pub mod Shown
 pub mod Lines
 pub mod Listing
 pub mod Listed

@@ -1,9 +1,9 @@
 -- The lines of a listing.
 use Rattle.std.specs.Prelude.{ℕ, cond, List, [], ◌∷◌, ◌++◌, codes, decimal, ◌==◌}
 use Rattle.records.specs.declared.fault.Fault.{Fault}
-use Rattle.records.specs.declared.fault.Layer.{Layer}
-use Rattle.records.specs.declared.fault.Layer.TheVariants.{Text, Table, Plan, Listing, Run, Guard}
 use Rattle.records.specs.declared.tables.Link.{Link}
+use Rattle.records.specs.Faults.{refusal_number}
+use Rattle.records.specs.Words.{layer_word}
 
 -- a number in decimal, after a space
 abbrev pub field : ℕ → List ℕ
@@ -13,15 +13,6 @@ field n = 32 ∷ decimal n
 abbrev pub mark_word : ℕ → List ℕ
 mark_word mark =
     cond (mark == 0) (codes "drop") (cond (mark == 1) (codes "kept") (cond (mark == 2) (codes "home") (codes "back")))
-
--- the word of a refusal's layer
-abbrev pub layer_word : Layer → List ℕ
-layer_word Text = codes "text"
-layer_word Table = codes "table"
-layer_word Plan = codes "plan"
-layer_word Listing = codes "listing"
-layer_word Run = codes "run"
-layer_word Guard = codes "guard"
 
 -- the first line: how many actors, given links and back links
 unfoldable pub head_line : ℕ → ℕ → ℕ → List ℕ
@@ -39,4 +30,4 @@ cost_line before after = codes "cost" ++ field before ++ field after ++ 10 ∷ [
 
 -- the one line of a refusal
 unfoldable pub refusal_line : Fault → List ℕ
-refusal_line f = codes "refused" ++ field f.number ++ codes " " ++ layer_word f.layer ++ field f.place ++ 10 ∷ []
+refusal_line f = codes "refused" ++ field (refusal_number f.refusal) ++ codes " " ++ layer_word f.layer ++ field f.place ++ 10 ∷ []

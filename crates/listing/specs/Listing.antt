@@ -5,6 +5,7 @@ use Rattle.records.specs.declared.fault.Fault.{Fault}
 use Rattle.records.specs.declared.fault.Layer.TheVariants.{Listing}
 use Rattle.records.specs.declared.tables.Link.{Link}
 use Rattle.records.specs.Faults.{fault}
+use Rattle.records.specs.declared.refusal.Refusal.TheVariants as refusal
 use Rattle.planning.specs.Planning.{Totals, over}
 use Rattle.listing.specs.Lines.{head_line, link_line, cost_line}
 
@@ -24,7 +25,7 @@ written out at bytes = paste out at bytes (length bytes)
 
 -- what is answered where these bytes are to go into that output: their count, unless they do not fit
 abbrev pub fit_answer : List ℕ → List ℕ → Result ℕ Fault
-fit_answer bytes out = cond (nat_le (length bytes) (length out)) (Ok (length bytes)) (Err (fault 12 Listing 0))
+fit_answer bytes out = cond (nat_le (length bytes) (length out)) (Ok (length bytes)) (Err (fault refusal.ShortOutput Listing 0))
 
 -- what the output holds then: the bytes, and its own later bytes after them; or just what it held, if they do not fit
 abbrev pub fit_output : List ℕ → List ℕ → List ℕ

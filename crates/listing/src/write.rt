@@ -6,11 +6,11 @@ ghost use Rattle.listing.specs.Listing.{link_lines, plan_bytes, written, fit_ans
 
 use crate::rows::{cost_line, head_line, link_line, refusal_line};
 use planner::Slip;
-use records::{Fault, Layer, Link};
+use records::{Fault, Layer, Link, Refusal};
 
 /// The output is too short for what is to be listed.
 const TOO_SHORT: Fault = Fault {
-    number: 12,
+    refusal: Refusal::ShortOutput,
     layer: Layer::Listing,
     place: 0,
 };

@@ -7,6 +7,8 @@ use Rattle.records.specs.declared.fault.Fault.{Fault}
 use Rattle.records.specs.declared.fault.Layer.{Layer}
 use Rattle.records.specs.declared.fault.Layer.TheVariants.{Plan}
 use Rattle.records.specs.Faults.{fault}
+use Rattle.records.specs.declared.refusal.Refusal.TheVariants as refusal
+use Rattle.records.specs.declared.refusal.Refusal.{Refusal}
 use Rattle.waits.specs.Events.{Path, Live, last, step}
 use Rattle.waits.proofs.Targets.{target_reached}
 use Rattle.waits.proofs.Waits.{cycle_blocks}
@@ -19,17 +21,17 @@ use Rattle.meaning.proofs.Following.{follows, obeys_edges}
 use Rattle.meaning.proofs.Free.{free_if_path, path_if_free}
 
 -- the first refused element: it is bad, and none before it is
-pub first_bad : {X : Type 0} (bad : X → Bool) (number : ℕ) (layer : Layer) (k : ℕ) (xs : List X) (d : X) (f : Fault) → refuse_first bad number layer k xs ≡ Err f
-    → (i : ℕ) × (i < length xs) × (f ≡ fault number layer (k + i)) × (bad (get_or xs i d) ≡ true) × ((j : ℕ) → j < i → bad (get_or xs j d) ≡ false)
-first_bad bad number layer k [] d f e = absurd (err_not_ok f (sym e))
-first_bad bad number layer k (x ∷ xs) d f e =
+pub first_bad : {X : Type 0} (bad : X → Bool) (why : Refusal) (layer : Layer) (k : ℕ) (xs : List X) (d : X) (f : Fault) → refuse_first bad why layer k xs ≡ Err f
+    → (i : ℕ) × (i < length xs) × (f ≡ fault why layer (k + i)) × (bad (get_or xs i d) ≡ true) × ((j : ℕ) → j < i → bad (get_or xs j d) ≡ false)
+first_bad bad why layer k [] d f e = absurd (err_not_ok f (sym e))
+first_bad bad why layer k (x ∷ xs) d f e =
     ⊎_elim
     (λ (t : bad x ≡ true).
-    let same : fault number layer k ≡ f = let p : ◌≡◌ {A = Result Unit Fault} (Err (fault number layer k)) (Err f) = sym (cond-true _ _ _ t) ∙ e in cc in
-    (0, omega arith, sym same ∙ ap (fault number layer) (let z : k ≡ k + 0 = omega arith in z), t, λ j h. absurd (omega arith)))
+    let same : fault why layer k ≡ f = let p : ◌≡◌ {A = Result Unit Fault} (Err (fault why layer k)) (Err f) = sym (cond-true _ _ _ t) ∙ e in cc in
+    (0, omega arith, sym same ∙ ap (fault why layer) (let z : k ≡ k + 0 = omega arith in z), t, λ j h. absurd (omega arith)))
     (λ (t : bad x ≡ false).
-    let r = first_bad bad number layer (k + 1) xs d f (sym (cond-false _ _ _ t) ∙ e) in
-    (suc r.0, omega (arith, r.1), r.2 ∙ ap (fault number layer) (let z : k + 1 + r.0 ≡ k + suc r.0 = omega arith in z), r.3, earlier bad x xs d r.0 t r.4))
+    let r = first_bad bad why layer (k + 1) xs d f (sym (cond-false _ _ _ t) ∙ e) in
+    (suc r.0, omega (arith, r.1), r.2 ∙ ap (fault why layer) (let z : k + 1 + r.0 ≡ k + suc r.0 = omega arith in z), r.3, earlier bad x xs d r.0 t r.4))
     (cases_Bool (bad x))
   where
     earlier : {X : Type 0} (bad : X → Bool) (x : X) (xs : List X) (d : X) (i : ℕ) → bad x ≡ false → ((j : ℕ) → j < i → bad (get_or xs j d) ≡ false)
@@ -55,7 +57,7 @@ module _ (d : Given) (tables : tables_check d ≡ Ok tt) where
       let h = starts_below p in
       let long = length-range_with_len 0 (length d.actors) in
       both_ways (on_cycle (length d.actors) (free_paths d) u)
-      (ap (on_cycle (length d.actors) (free_paths d)) (sym (at_counting u h)) ∙ none_bad (on_cycle (length d.actors) (free_paths d)) 11 Plan 0 (range_with_len 0 (length d.actors)) 0 e u (omega arith))
+      (ap (on_cycle (length d.actors) (free_paths d)) (sym (at_counting u h)) ∙ none_bad (on_cycle (length d.actors) (free_paths d)) refusal.Deadlock Plan 0 (range_with_len 0 (length d.actors)) 0 e u (omega arith))
       (free_at u h p)
 
   runs : Live (base_edges d) → Runs d
@@ -68,16 +70,16 @@ module _ (d : Given) (tables : tables_check d ≡ Ok tt) where
       let none = cycle_blocks p r.0 r.1.lawful (obeys_edges d.actors (given_edges d) r.0 r.1) in
       omega (arith, none.1, r.2 u h)
 
-  lowest : (f : Fault) → cycles_check d ≡ Err f → (f ≡ fault 11 Plan f.place) × (Runs d → ⊥) × LowestOnCycle d f.place
+  lowest : (f : Fault) → cycles_check d ≡ Err f → (f ≡ fault refusal.Deadlock Plan f.place) × (Runs d → ⊥) × LowestOnCycle d f.place
   unfolding check_cycles
   lowest f e =
-      let r = first_bad (on_cycle (length d.actors) (free_paths d)) 11 Plan 0 (range_with_len 0 (length d.actors)) 0 f e in
+      let r = first_bad (on_cycle (length d.actors) (free_paths d)) refusal.Deadlock Plan 0 (range_with_len 0 (length d.actors)) 0 f e in
       let i = r.0 in
       let below : i < length d.actors = omega (arith, r.1, length-range_with_len 0 (length d.actors)) in
-      let is : f ≡ fault 11 Plan i = r.2 ∙ ap (fault 11 Plan) (zero-add i) in
+      let is : f ≡ fault refusal.Deadlock Plan i = r.2 ∙ ap (fault refusal.Deadlock Plan) (zero-add i) in
       let place : f.place ≡ i = ap (λ (x : Fault). x.place) is in
       let cycle = path_if_free (length d.actors) (base_edges d) (base_small d tables).within i i below below (ap (on_cycle (length d.actors) (free_paths d)) (sym (at_counting i below)) ∙ r.3) in (
-        is ∙ ap (fault 11 Plan) (sym place),
+        is ∙ ap (fault refusal.Deadlock Plan) (sym place),
         stuck i below cycle,
         subst (LowestOnCycle d) (sym place) (record {
           below = below;

@@ -5,6 +5,7 @@ use Rattle.records.specs.declared.fault.Layer.TheVariants.{Plan}
 use Rattle.records.specs.declared.tables.Edge.{Edge}
 use Rattle.records.specs.Faults.{fault}
 use Rattle.records.specs.Tables.{no_link, link_edge, processor_of}
+use Rattle.records.specs.declared.refusal.Refusal.TheVariants as refusal
 use Rattle.waits.specs.Counting.{count}
 use Rattle.waits.specs.Events.{Order, Follows, Enforced, Event, starts, finishes, In, Path, Live, place, chosen}
 use Rattle.waits.specs.Walks.{Short}
@@ -32,7 +33,7 @@ pub record LowestOnCycle (d : Given) (p : ℕ) : Type 0 where
 -- a drawing whose tables pass is refused as deadlocked exactly when it cannot run
 pub record Deadlock (d : Given) : Type 0 where
   pub accepted : (t : Totals) → (planned d).answer ≡ Ok t → Runs d
-  pub refused : (f : Fault) → (planned d).answer ≡ Err f → (f ≡ fault 11 Plan f.place) × (Runs d → ⊥) × LowestOnCycle d f.place
+  pub refused : (f : Fault) → (planned d).answer ≡ Err f → (f ≡ fault refusal.Deadlock Plan f.place) × (Runs d → ⊥) × LowestOnCycle d f.place
 
 abbrev pub DeadlockExactly : Given → Type 0
 DeadlockExactly d = tables_check d ≡ Ok tt → Deadlock d

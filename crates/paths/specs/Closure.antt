@@ -4,6 +4,7 @@ use Rattle.std.specs.List.{range_with_len}
 use Rattle.records.specs.declared.fault.Fault.{Fault}
 use Rattle.records.specs.declared.fault.Layer.TheVariants.{Table}
 use Rattle.records.specs.Faults.{fault}
+use Rattle.records.specs.declared.refusal.Refusal.TheVariants as refusal
 use Rattle.paths.specs.Algebra.{Ops}
 
 -- the entry at row u and column v
@@ -28,7 +29,7 @@ closed o n cells = rounds o n n cells
 
 -- what the call answers for a table of this length
 abbrev pub close_answer : ℕ → ℕ → Result Unit Fault
-close_answer n len = cond (nat_le (n * n) len) (Ok tt) (Err (fault 8 Table 0))
+close_answer n len = cond (nat_le (n * n) len) (Ok tt) (Err (fault refusal.ShortWorkspace Table 0))
 
 -- what the table holds after the call
 abbrev pub close_table : {M : Type 0} → Ops M → ℕ → List M → List M

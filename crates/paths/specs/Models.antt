@@ -1,6 +1,7 @@
 -- The two algebras that planning uses: whether there is a delay-free path, and the least delay.
 use Rattle.std.specs.Prelude.{◌≡◌, ℕ, ◌+◌, ◌<◌, ◌≤◌, min, Bool, true, false, ◌&&◌, ◌||◌, ◌⊎◌, ◌==◌, refl}
 use Rattle.std.proofs.Common.{ap, subst, inl, inr, ⊎_elim, arith}
+use Rattle.std.proofs.Math.Bool.{or_assoc, or_comm, and_assoc, and-true, and-false, and-or_distrib_left, and-or_distrib_right}
 use Rattle.std.proofs.Math.Bridge.{le_prop}
 use Rattle.std.proofs.lemmas.Bool.{cases_lt}
 use Rattle.paths.specs.Algebra.{Ops, Laws}
@@ -23,39 +24,6 @@ one_of : (a b : Bool) → ((a || b) ≡ a) ⊎ ((a || b) ≡ b)
 one_of true b = inl refl
 one_of false b = inr refl
 
-or_assoc : (a b c : Bool) → ((a || b) || c) ≡ (a || (b || c))
-or_assoc true b c = refl
-or_assoc false b c = refl
-
-or_comm : (a b : Bool) → (a || b) ≡ (b || a)
-or_comm true true = refl
-or_comm true false = refl
-or_comm false true = refl
-or_comm false false = refl
-
-and_assoc : (a b c : Bool) → ((a && b) && c) ≡ (a && (b && c))
-and_assoc true b c = refl
-and_assoc false b c = refl
-
-and_true : (a : Bool) → (a && true) ≡ a
-and_true true = refl
-and_true false = refl
-
-and_false : (a : Bool) → (a && false) ≡ false
-and_false true = refl
-and_false false = refl
-
-and_or : (a b c : Bool) → (a && (b || c)) ≡ ((a && b) || (a && c))
-and_or true b c = refl
-and_or false b c = refl
-
-or_and : (a b c : Bool) → ((a || b) && c) ≡ ((a && c) || (b && c))
-or_and true true true = refl
-or_and true true false = refl
-or_and true false true = refl
-or_and true false false = refl
-or_and false b c = refl
-
 lift_one : (x y : Reach) → ((x.yes || y.yes) ≡ x.yes) ⊎ ((x.yes || y.yes) ≡ y.yes) → (reach (x.yes || y.yes) ≡ x) ⊎ (reach (x.yes || y.yes) ≡ y)
 lift_one x y (inl e) = inl (ap reach e)
 lift_one x y (inr e) = inr (ap reach e)
@@ -67,12 +35,12 @@ reach_laws = record {
   choose_one = λ x y. lift_one x y (one_of x.yes y.yes);
   follow_assoc = λ x y z. ap reach (and_assoc x.yes y.yes z.yes);
   stay_left = λ x. refl;
-  stay_right = λ x. ap reach (and_true x.yes);
+  stay_right = λ x. ap reach (and-true x.yes);
   none_left = λ x. refl;
-  none_right = λ x. ap reach (and_false x.yes);
+  none_right = λ x. ap reach (and-false x.yes);
   none_loses = λ x. refl;
-  spread_left = λ x y z. ap reach (and_or x.yes y.yes z.yes);
-  spread_right = λ x y z. ap reach (or_and x.yes y.yes z.yes);
+  spread_left = λ x y z. ap reach (and-or_distrib_left x.yes y.yes z.yes);
+  spread_right = λ x y z. ap reach (and-or_distrib_right x.yes y.yes z.yes);
   stay_wins = λ x. refl;
 }
 

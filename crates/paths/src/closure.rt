@@ -5,7 +5,7 @@ ghost use Rattle.paths.specs.Closure.{entry, round, close_answer, close_table};
 ghost use Rattle.paths.specs.Walks.{Chosen};
 
 use crate::algebra::Algebra;
-use records::{Fault, Layer};
+use records::{Fault, Layer, Refusal};
 
 // Lets each path of the row go on by way of the vertex k: `row` and `via` are where its row and the row of k begin.
 fn relax_row<T: Algebra>(cells: &mut [T], n: usize, row: usize, via: usize, k: usize)
@@ -17,6 +17,7 @@ fn relax_row<T: Algebra>(cells: &mut [T], n: usize, row: usize, via: usize, k: u
     ensures rest { (p : ℕ) → (p < row) ⊎ (row + n ≤ p) → slice_index_or cells.new p T.ops.none ≡ slice_index_or cells.old p T.ops.none }
 {
     let through = cells[row + k];
+    // By index, since a row is written from itself and from another row of the same slice.
     for j in 0..n {
         let next = through.follow(cells[via + j]);
         cells[row + j] = cells[row + j].choose(next);
@@ -30,6 +31,7 @@ fn relax_all<T: Algebra>(cells: &mut [T], n: usize, k: usize)
     ensures { cells.new ≡ round T.ops n k cells.old }
 {
     let via = k * n;
+    // By index, since the row of k has to stay in reach while the others are written.
     for i in 0..n {
         let row = i * n;
         relax_row(cells, n, row, via, k);
@@ -44,19 +46,8 @@ pub fn close<T: Algebra>(cells: &mut [T], n: usize) -> Result<(), Fault>
     ensures table { cells.new ≡ close_table T.ops n cells.old }
     ensures paths { nat_le (n * n) (length cells.old) ≡ true → (u v : ℕ) → u < n → v < n → Chosen T.ops (entry T.ops cells.old n) n u v (entry T.ops cells.new n u v) }
 {
-    let Some(count) = n.checked_mul(n) else {
-        return Err(Fault {
-            number: 8,
-            layer: Layer::Table,
-            place: 0,
-        });
-    };
-    if count > cells.len() {
-        return Err(Fault {
-            number: 8,
-            layer: Layer::Table,
-            place: 0,
-        });
+    if n.checked_mul(n).is_none_or(|count| count > cells.len()) {
+        return Err(Fault::new(Refusal::ShortWorkspace, Layer::Table, 0));
     }
     for k in 0..n {
         relax_all(cells, n, k);

@@ -7,7 +7,7 @@ ghost use Rattle.planner.specs.Within.{Sound};
 
 use crate::tables::place;
 use paths::Reach;
-use records::{Actor, Fault, Layer, Link};
+use records::{Actor, Fault, Layer, Link, Refusal};
 
 const ACTORS: usize = 64;
 
@@ -21,16 +21,6 @@ const LONGEST_ESTIMATE: u32 = 1_000_000;
 
 const LONGEST_DELAY: u32 = 1_000;
 
-fn table_fault(number: u8, place: usize) -> Fault
-    ensures { result ≡ fault number Table place }
-{
-    Fault {
-        number,
-        layer: Layer::Table,
-        place,
-    }
-}
-
 // The counts, the lengths of what is lent, and the lead.
 pub(crate) fn check_counts(
     n: usize,
@@ -43,16 +33,16 @@ pub(crate) fn check_counts(
     ensures { result ≡ check_counts n m links lead delays reach }
 {
     if n == 0 || n > ACTORS {
-        return Err(table_fault(5, 0));
+        return Err(Fault::new(Refusal::ActorCount, Layer::Table, 0));
     }
     if m > LINKS || links < m + BACKS {
-        return Err(table_fault(6, 0));
+        return Err(Fault::new(Refusal::LinkCount, Layer::Table, 0));
     }
     if lead == 0 || lead > LONGEST_DELAY {
-        return Err(table_fault(7, 0));
+        return Err(Fault::new(Refusal::BadLead, Layer::Table, 0));
     }
     if delays < n * n || reach < n * n {
-        return Err(table_fault(8, 0));
+        return Err(Fault::new(Refusal::ShortWorkspace, Layer::Table, 0));
     }
     Ok(())
 }
@@ -64,11 +54,11 @@ fn is_bad_actor(actor: Actor) -> bool
 }
 
 pub(crate) fn check_actors(actors: &[Actor]) -> Result<(), Fault>
-    ensures { result ≡ refuse_first bad_actor 9 Table 0 actors.now }
+    ensures { result ≡ refuse_first bad_actor Refusal.BadActor Table 0 actors.now }
 {
     for i in 0..actors.len() {
         if is_bad_actor(actors[i]) {
-            return Err(table_fault(9, i));
+            return Err(Fault::new(Refusal::BadActor, Layer::Table, i));
         }
     }
     Ok(())
@@ -81,11 +71,11 @@ fn is_bad_link(link: Link, n: usize) -> bool
 }
 
 pub(crate) fn check_links(links: &[Link], n: usize) -> Result<(), Fault>
-    ensures { result ≡ refuse_first (bad_link n) 10 Table 0 links.now }
+    ensures { result ≡ refuse_first (bad_link n) Refusal.BadLink Table 0 links.now }
 {
     for i in 0..links.len() {
         if is_bad_link(links[i], n) {
-            return Err(table_fault(10, i));
+            return Err(Fault::new(Refusal::BadLink, Layer::Table, i));
         }
     }
     Ok(())
@@ -118,7 +108,7 @@ pub(crate) fn check_cycles(free: &[Reach], n: usize) -> Result<(), Fault>
         let at = place(n, u, u);
         if free[at].yes {
             return Err(Fault {
-                number: 11,
+                refusal: Refusal::Deadlock,
                 layer: Layer::Plan,
                 place: u,
             });

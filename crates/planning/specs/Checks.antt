@@ -7,6 +7,8 @@ use Rattle.records.specs.declared.fault.Layer.TheVariants.{Table, Plan}
 use Rattle.records.specs.declared.tables.Actor.{Actor}
 use Rattle.records.specs.declared.tables.Link.{Link}
 use Rattle.records.specs.Faults.{fault, then}
+use Rattle.records.specs.declared.refusal.Refusal.TheVariants as refusal
+use Rattle.records.specs.declared.refusal.Refusal.{Refusal}
 use Rattle.paths.specs.Closure.{entry}
 use Rattle.paths.specs.Models.{reach_ops}
 use Rattle.paths.specs.declared.reach.Reach.{Reach}
@@ -16,18 +18,18 @@ abbrev pub refuse_if : Bool → Fault → Result Unit Fault
 refuse_if bad f = cond bad (Err f) (Ok tt)
 
 -- the first element that is bad, counted from k, is refused with its place
-abbrev pub refuse_first : {X : Type 0} → (X → Bool) → ℕ → Layer → ℕ → List X → Result Unit Fault
-refuse_first bad number layer k [] = Ok tt
-refuse_first bad number layer k (x ∷ xs) =
-    cond (bad x) (Err (fault number layer k)) (refuse_first bad number layer (k + 1) xs)
+abbrev pub refuse_first : {X : Type 0} → (X → Bool) → Refusal → Layer → ℕ → List X → Result Unit Fault
+refuse_first bad why layer k [] = Ok tt
+refuse_first bad why layer k (x ∷ xs) =
+    cond (bad x) (Err (fault why layer k)) (refuse_first bad why layer (k + 1) xs)
 
 -- counts, lengths and lead
 abbrev pub check_counts : ℕ → ℕ → ℕ → ℕ → ℕ → ℕ → Result Unit Fault
 check_counts n m links-length lead delays-length reach-length =
-    then (refuse_if (n == 0 || nat_lt 64 n) (fault 5 Table 0)) (λ _.
-    then (refuse_if (nat_lt 256 m || nat_lt links-length (m + 15)) (fault 6 Table 0)) (λ _.
-    then (refuse_if (lead == 0 || nat_lt 1000 lead) (fault 7 Table 0)) (λ _.
-    refuse_if (nat_lt delays-length (n * n) || nat_lt reach-length (n * n)) (fault 8 Table 0))))
+    then (refuse_if (n == 0 || nat_lt 64 n) (fault refusal.ActorCount Table 0)) (λ _.
+    then (refuse_if (nat_lt 256 m || nat_lt links-length (m + 15)) (fault refusal.LinkCount Table 0)) (λ _.
+    then (refuse_if (lead == 0 || nat_lt 1000 lead) (fault refusal.BadLead Table 0)) (λ _.
+    refuse_if (nat_lt delays-length (n * n) || nat_lt reach-length (n * n)) (fault refusal.ShortWorkspace Table 0))))
 
 abbrev pub bad_actor : Actor → Bool
 bad_actor a = nat_lt 15 a.processor || (a.estimate == 0 || nat_lt 1000000 a.estimate)
@@ -39,8 +41,8 @@ bad_link n l = nat_le n l.sender || (nat_le n l.receiver || nat_lt 1000 l.delay)
 unfoldable pub check_tables : List Actor → List Link → ℕ → ℕ → ℕ → ℕ → Result Unit Fault
 check_tables actors links m lead delays-length reach-length =
     then (check_counts (length actors) m (length links) lead delays-length reach-length) (λ _.
-    then (refuse_first bad_actor 9 Table 0 actors) (λ _.
-    refuse_first (bad_link (length actors)) 10 Table 0 (take m links)))
+    then (refuse_first bad_actor refusal.BadActor Table 0 actors) (λ _.
+    refuse_first (bad_link (length actors)) refusal.BadLink Table 0 (take m links)))
 
 -- a delay-free path leads from u to itself
 abbrev pub on_cycle : ℕ → List Reach → ℕ → Bool
@@ -48,4 +50,4 @@ on_cycle n free u = (entry reach_ops free n u u).yes
 
 -- the lowest actor on a delay-free cycle
 unfoldable pub check_cycles : ℕ → List Reach → Result Unit Fault
-check_cycles n free = refuse_first (on_cycle n free) 11 Plan 0 (range_with_len 0 n)
+check_cycles n free = refuse_first (on_cycle n free) refusal.Deadlock Plan 0 (range_with_len 0 n)

@@ -7,6 +7,7 @@ use Rattle.records.specs.declared.fault.Fault.{Fault}
 use Rattle.records.specs.declared.fault.Layer.TheVariants.{Text}
 use Rattle.records.specs.declared.tables.Actor.{Actor}
 use Rattle.records.specs.declared.tables.Link.{Link}
+use Rattle.records.specs.declared.refusal.Refusal.TheVariants as refusal
 use Rattle.reader.specs.Lines.{cut, line_size}
 use Rattle.reader.specs.Words.{Parsed, lead, actor, link, line_of, over}
 use Rattle.reader.specs.Reading.{entry_of, room_step, check_step, over_lines, actor_room, link_room, Drawing, drawing, with_entry, add_step, drawn, counts_of, actors_after, links_after}
@@ -34,8 +35,8 @@ took p y h q r w i = record { before = h; ends = q; parsed = p; reads = sym r; w
 -- the room that is left after a line, by what it writes
 abbrev room_entry : ℕ → ℕ → ℕ → Entry → Result Check Fault
 room_entry n actors links (entry.Lead k) = Ok (Room actors links)
-room_entry n actors links (entry.Actor a) = cond (ltb 0 actors) (Ok (Room (actors - 1) links)) (Err (fault 4 Text n))
-room_entry n actors links (entry.Link l) = cond (ltb 0 links) (Ok (Room actors (links - 1))) (Err (fault 4 Text n))
+room_entry n actors links (entry.Actor a) = cond (ltb 0 actors) (Ok (Room (actors - 1) links)) (Err (fault refusal.NoRoom Text n))
+room_entry n actors links (entry.Link l) = cond (ltb 0 links) (Ok (Room actors (links - 1))) (Err (fault refusal.NoRoom Text n))
 
 room_like : (n a l : ℕ) (p : Parsed) (x : Entry) → entry_of p ≡ Ok x → room_step n a l p ≡ room_entry n a l x
 room_like n a l (lead u) x q = grind arith

@@ -3,10 +3,11 @@ use Rattle.std.specs.Prelude.{ℕ, ◌+◌, ◌-◌, ◌*◌, Bool, cond, ◌&&�
 use Rattle.records.specs.Faults.{fault}
 use Rattle.records.specs.declared.fault.Fault.{Fault}
 use Rattle.records.specs.declared.fault.Layer.TheVariants.{Text}
+use Rattle.records.specs.declared.refusal.Refusal.TheVariants as refusal
 use Rattle.reader.specs.Words.{Part}
 
 abbrev pub no_number : ℕ → Fault
-no_number n = fault 2 Text n
+no_number n = fault refusal.NoNumber Text n
 
 abbrev pub is_digit : ℕ → Bool
 is_digit b = nat_le 48 b && nat_le b 57

@@ -5,6 +5,7 @@ use Rattle.records.specs.declared.fault.Fault.{Fault}
 use Rattle.records.specs.declared.fault.Layer.TheVariants.{Text}
 use Rattle.records.specs.declared.tables.Actor.{Actor}
 use Rattle.records.specs.declared.tables.Link.{Link}
+use Rattle.records.specs.declared.refusal.Refusal.TheVariants as refusal
 use Rattle.reader.specs.Lines.{cut}
 use Rattle.reader.specs.Words.{Parsed, lead, actor, link, line_of, over}
 use Rattle.reader.specs.Numbers.{number_of}
@@ -30,15 +31,15 @@ entry_of (link a b c) =
 
 -- order: a lead stands first, and no actor after a link
 abbrev pub order_step : ℕ → Bool → Parsed → Result Check Fault
-order_step n linked (lead a) = cond (n == 1) (Ok (Order linked)) (Err (fault 3 Text n))
-order_step n linked (actor a b) = cond linked (Err (fault 3 Text n)) (Ok (Order linked))
+order_step n linked (lead a) = cond (n == 1) (Ok (Order linked)) (Err (fault refusal.OutOfOrder Text n))
+order_step n linked (actor a b) = cond linked (Err (fault refusal.OutOfOrder Text n)) (Ok (Order linked))
 order_step n linked (link a b c) = Ok (Order true)
 
 -- room: so many actors and links may still come
 abbrev pub room_step : ℕ → ℕ → ℕ → Parsed → Result Check Fault
 room_step n actors links (lead a) = Ok (Room actors links)
-room_step n actors links (actor a b) = cond (nat_lt 0 actors) (Ok (Room (actors - 1) links)) (Err (fault 4 Text n))
-room_step n actors links (link a b c) = cond (nat_lt 0 links) (Ok (Room actors (links - 1))) (Err (fault 4 Text n))
+room_step n actors links (actor a b) = cond (nat_lt 0 actors) (Ok (Room (actors - 1) links)) (Err (fault refusal.NoRoom Text n))
+room_step n actors links (link a b c) = cond (nat_lt 0 links) (Ok (Room actors (links - 1))) (Err (fault refusal.NoRoom Text n))
 
 -- a check at the line n, and what it goes on with
 unfoldable pub check_step : ℕ → Parsed → Check → Result Check Fault
@@ -90,7 +91,7 @@ drawn text = over_lines add_step 1 (drawing [] [] 1) (cut text)
 -- the reading of a text into tables of so many actors and links
 unfoldable pub reading : List ℕ → ℕ → ℕ → Result Drawing Fault
 reading text actors links =
-    cond (nat_lt 8192 (length text)) (Err (fault 1 Text 0))
+    cond (nat_lt 8192 (length text)) (Err (fault refusal.Misshaped Text 0))
     (then (passed Shape text) (λ _. then (passed Numbers text) (λ _. then (passed (Order false) text)
     (λ _. then (has_room actors links text) (λ _. drawn text)))))
 

@@ -4,6 +4,7 @@ use Rattle.std.specs.Borrow.{Bor}
 use Rattle.records.specs.Faults.{fault}
 use Rattle.records.specs.declared.fault.Fault.{Fault}
 use Rattle.records.specs.declared.fault.Layer.TheVariants.{Text}
+use Rattle.records.specs.declared.refusal.Refusal.TheVariants as refusal
 use Rattle.reader.specs.Lines.{onto}
 use Rattle.reader.specs.declared.word.Word.{Word}
 use Rattle.reader.specs.declared.line.Line.{Line}
@@ -35,7 +36,7 @@ pub data Parsed : Type 0 where
 
 -- a line that is not made as its letter asks
 abbrev pub misshaped : ℕ → Fault
-misshaped n = fault 1 Text n
+misshaped n = fault refusal.Misshaped Text n
 
 abbrev pub lead_of : ℕ → List (List ℕ) → Result Parsed Fault
 lead_of n [] = Err (misshaped n)

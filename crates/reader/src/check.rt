@@ -4,8 +4,7 @@ ghost use Rattle.reader.specs.Words.{held_line};
 ghost use Rattle.reader.specs.Reading.{order_step, room_step, check_step, passed};
 
 use crate::line::{Line, line_end};
-use crate::refusal::at_line;
-use records::Fault;
+use records::{Fault, Layer, Refusal};
 
 /// What is checked of each line, with what the lines before it leave to know.
 #[derive(Clone, Copy)]
@@ -41,7 +40,7 @@ impl Check {
 fn order(linked: bool, line: usize, parsed: Line<'_>) -> Result<Check, Fault>
     ensures { result ≡ order_step line linked (held_line parsed.entry) }
 {
-    let refused = Err(at_line(3, line));
+    let refused = Err(Fault::new(Refusal::OutOfOrder, Layer::Text, line));
     match parsed {
         Line::Lead(_) if line != 1 => refused,
         Line::Actor(_, _) if linked => refused,
@@ -64,7 +63,7 @@ fn room(actors: usize, links: usize, line: usize, parsed: Line<'_>) -> Result<Ch
             actors,
             links: links - 1,
         }),
-        _ => Err(at_line(4, line)),
+        _ => Err(Fault::new(Refusal::NoRoom, Layer::Text, line)),
     }
 }
 

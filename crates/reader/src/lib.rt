@@ -4,7 +4,6 @@
 mod check;
 mod fill;
 mod line;
-mod refusal;
 mod word;
 
 ghost use Rattle.std.specs.Prelude.{◌≡◌, length};
@@ -13,8 +12,7 @@ ghost use Rattle.reader.specs.Reading.{count_values, reading_answer, reading_act
 
 use check::{Check, pass};
 use fill::fill;
-use records::{Actor, Fault, Link};
-use refusal::at_line;
+use records::{Actor, Fault, Layer, Link, Refusal};
 
 // The longest text that is read, in bytes.
 const MOST_BYTES: usize = 8192;
@@ -54,7 +52,7 @@ pub fn read(text: &[u8], actors: &mut [Actor], links: &mut [Link]) -> Result<Cou
     ensures links { links.new ≡ reading_links text.now actors.old links.old }
 {
     if text.len() > MOST_BYTES {
-        return Err(at_line(1, 0));
+        return Err(Fault::new(Refusal::Misshaped, Layer::Text, 0));
     }
     pass(text, Check::Shape)?;
     pass(text, Check::Numbers)?;

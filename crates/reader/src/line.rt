@@ -4,9 +4,8 @@ ghost use Rattle.reader.specs.Lines.{line_size};
 ghost use Rattle.reader.specs.Words.{split, over, held_line, lead_of, actor_of, link_of, line_of};
 ghost use Rattle.reader.specs.Reading.{entry_of};
 
-use crate::refusal::at_line;
 use crate::word::{Word, inner, last};
-use records::{Actor, Fault, Link};
+use records::{Actor, Fault, Layer, Link, Refusal};
 
 /// A line of the text, by its letter.
 #[derive(Clone, Copy)]
@@ -35,14 +34,14 @@ impl<'a> Line<'a> {
     {
         let n = raw.len();
         if n < 3 || raw[1] != b' ' || raw[n - 1] != b'\n' {
-            return Err(at_line(1, line));
+            return Err(Fault::new(Refusal::Misshaped, Layer::Text, line));
         }
         let rest = &raw[2..n - 1];
         match char::from(raw[0]) {
             'R' => lead_line(rest, line),
             'A' => actor_line(rest, line),
             'L' => link_line(rest, line),
-            _ => Err(at_line(1, line)),
+            _ => Err(Fault::new(Refusal::Misshaped, Layer::Text, line)),
         }
     }
 

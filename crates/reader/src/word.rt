@@ -3,8 +3,7 @@ ghost use Rattle.std.specs.Prelude.{◌≡◌, ◌≤◌, length};
 ghost use Rattle.reader.specs.Numbers.{digits_from, number_of};
 ghost use Rattle.reader.specs.Words.{run, over, held, held_inner, inner_of, last_of};
 
-use crate::refusal::at_line;
-use records::Fault;
+use records::{Fault, Layer, Refusal};
 
 /// A word: a part of the text, with its line, counted from 1.
 #[derive(Clone, Copy)]
@@ -22,7 +21,7 @@ impl<'a> Word<'a> {
         let bytes = self.bytes;
         let n = bytes.len();
         if n == 0 || n > 7 || (n > 1 && bytes[0] == b'0') {
-            return Err(at_line(2, self.line));
+            return Err(Fault::new(Refusal::NoNumber, Layer::Text, self.line));
         }
         digits(bytes, self.line)
     }
@@ -36,7 +35,7 @@ fn digits(bytes: &[u8], line: usize) -> Result<u32, Fault>
     let mut n = 0u32;
     for b in bytes {
         if *b < b'0' || *b > b'9' {
-            return Err(at_line(2, line));
+            return Err(Fault::new(Refusal::NoNumber, Layer::Text, line));
         }
         n = n * 10 + (*b - b'0') as u32;
     }
@@ -62,7 +61,7 @@ pub(crate) fn inner<'a>(rest: &'a [u8], line: usize) -> Result<(Word<'a>, &'a [u
 {
     let end = space(rest);
     if end >= rest.len() {
-        return Err(at_line(1, line));
+        return Err(Fault::new(Refusal::Misshaped, Layer::Text, line));
     }
     Ok((
         Word {
@@ -79,7 +78,7 @@ pub(crate) fn last<'a>(rest: &'a [u8], line: usize) -> Result<Word<'a>, Fault>
 {
     let end = space(rest);
     if end < rest.len() {
-        return Err(at_line(1, line));
+        return Err(Fault::new(Refusal::Misshaped, Layer::Text, line));
     }
     Ok(Word { bytes: rest, line })
 }

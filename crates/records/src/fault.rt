@@ -1,4 +1,10 @@
-// One refusal: its number, the layer that refused, and the place.
+// One refusal: why, which layer refused, and the place.
+ghost use Rattle.std.specs.Prelude.{◌≡◌, ◌≤◌, length, Some};
+ghost use Rattle.records.specs.Faults.{fault};
+ghost use Rattle.records.specs.Words.{layer_word, refusal_text};
+
+use crate::refusal::Refusal;
+use std::fmt;
 
 /// The layer that refuses.
 #[derive(Clone, Copy, PartialEq, Eq, Debug)]
@@ -17,10 +23,61 @@ pub enum Layer {
     Guard,
 }
 
+impl Layer {
+    /// The word of the layer.
+    pub fn word(self) -> &'static str
+        ensures word { result.now ≡ layer_word self }
+        ensures len { length result.now ≤ 7 }
+    {
+        match self {
+            Layer::Text => "text",
+            Layer::Table => "table",
+            Layer::Plan => "plan",
+            Layer::Listing => "listing",
+            Layer::Run => "run",
+            Layer::Guard => "guard",
+        }
+    }
+}
+
+/// The word of the layer.
+impl fmt::Display for Layer {
+    ghost output = { λ x. Some (layer_word x) };
+
+    fn fmt<W: fmt::Write>(&self, f: &mut fmt::Formatter<W>) -> fmt::Result {
+        f.write_str(self.word())
+    }
+}
+
 /// A refusal. It is made where it is found, complete, and passed up unchanged.
 #[derive(Clone, Copy, PartialEq, Eq, Debug)]
 pub struct Fault {
-    pub number: u8,
+    pub refusal: Refusal,
     pub layer: Layer,
     pub place: usize,
+}
+
+impl Fault {
+    /// The refusal for this reason, by this layer, at this place.
+    pub fn new(refusal: Refusal, layer: Layer, place: usize) -> Fault
+        ensures { result ≡ fault refusal layer place }
+    {
+        Fault {
+            refusal,
+            layer,
+            place,
+        }
+    }
+}
+
+/// `refused NUMBER LAYER PLACE`.
+impl fmt::Display for Fault {
+    ghost output = { λ x. Some (refusal_text x) };
+
+    fn fmt<W: fmt::Write>(&self, f: &mut fmt::Formatter<W>) -> fmt::Result {
+        let number = self.refusal.number();
+        let layer = self.layer;
+        let place = self.place;
+        write!(f, "refused {number} {layer} {place}")
+    }
 }

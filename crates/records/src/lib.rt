@@ -2,7 +2,9 @@
 #![tactic(auto)]
 
 mod fault;
+mod refusal;
 mod tables;
 
 pub use fault::{Fault, Layer};
-pub use tables::{Actor, Edge, Link};
+pub use refusal::Refusal;
+pub use tables::{Actor, Edge, Link, Mark};

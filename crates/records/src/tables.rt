@@ -1,21 +1,36 @@
 // The records of the two tables that a caller lends, and the edges that they stand for.
+ghost use Rattle.records.specs.Tables.{link_edge};
+ghost use Rattle.std.specs.Prelude.{◌≡◌};
 
 /// A task in the fixed order of its processor.
-#[derive(Clone, Copy, PartialEq, Eq, Debug)]
+#[derive(Clone, Copy, PartialEq, Eq, Debug, Default)]
 pub struct Actor {
     pub processor: u32,
     /// How long one firing takes, in clock units.
     pub estimate: u32,
 }
 
-/// An edge between two actors, with what planning found for it.
+/// What planning found for a link.
 #[derive(Clone, Copy, PartialEq, Eq, Debug)]
+pub enum Mark {
+    /// Others enforce its wait.
+    Dropped = 0,
+    /// It has to be waited for.
+    Kept = 1,
+    /// Both ends are on one processor.
+    Local = 2,
+    /// Planning added it.
+    Back = 3,
+}
+
+/// An edge between two actors, with what planning found for it.
+#[derive(Clone, Copy, PartialEq, Eq, Debug, Default)]
 pub struct Link {
     pub sender: u32,
     pub receiver: u32,
     /// How many values the link holds at the start.
     pub delay: u32,
-    /// 0 dropped, 1 kept, 2 local, 3 back.
+    /// The number of a `Mark`. A number and no `Mark`, since a table that is lent to a run may hold any, and opening refuses it.
     pub mark: u8,
     /// The cells of the link's buffer.
     pub size: u32,
@@ -27,4 +42,17 @@ pub struct Edge {
     pub sender: usize,
     pub receiver: usize,
     pub delay: u32,
+}
+
+/// Every link, a local one too, is an edge.
+impl From<Link> for Edge {
+    ghost from_gives = { λ link edge. edge ≡ link_edge link };
+
+    fn from(link: Link) -> Edge {
+        Edge {
+            sender: link.sender as usize,
+            receiver: link.receiver as usize,
+            delay: link.delay,
+        }
+    }
 }

@@ -1,27 +1,24 @@
 // What the program prints for an input.
 use crate::calls::{bad_line, steps_of};
-use crate::desk::{LINKS, NO_LINK, rehearse_text};
+use crate::desk::{LINKS, rehearse_text};
 use crate::parts::{Parts, parts_of};
 use crate::report::report;
+use records::Link;
 use std::alloc::Global;
 use std::io;
-use wording::ToldFault;
 
 /// The longest input that is answered, in bytes.
 pub const MOST_BYTES: usize = 1_048_576;
 
 fn rehearsed(heap: Global, drawing: &[u8], calls: &[u8]) -> io::Result<String> {
     let mut steps = steps_of(heap, calls)?;
-    let mut links = [NO_LINK; LINKS];
+    let mut links = [Link::default(); LINKS];
     match rehearse_text(drawing, &mut links, steps.as_mut_slice()) {
         Ok(slip) => {
             let all = slip.given().saturating_add(slip.back()).min(LINKS);
             Ok(report(heap, steps.as_slice(), &links[0..all])?)
         }
-        Err(fault) => {
-            let fault = ToldFault(fault);
-            Ok(format!(in heap; "{fault}\n")?)
-        }
+        Err(fault) => Ok(format!(in heap; "{fault}\n")?),
     }
 }
 

@@ -1,6 +1,6 @@
 // The memory that is lent to a rehearsal.
 use guards::{Guard, Pointers};
-use paths::{Delay, Reach};
+use paths::{Algebra, Delay, Reach};
 use planner::Slip;
 use reader::read;
 use records::{Actor, Fault, Link};
@@ -14,24 +14,11 @@ pub const LINKS: usize = 271;
 
 const PAIRS: usize = 4096;
 
-const NO_ACTOR: Actor = Actor {
-    processor: 0,
-    estimate: 0,
-};
-
-pub const NO_LINK: Link = Link {
-    sender: 0,
-    receiver: 0,
-    delay: 0,
-    mark: 0,
-    size: 0,
-};
-
 /// Reads a drawing, plans it into the links, and makes the calls of the steps in a run of the plan.
 pub fn rehearse_text(text: &[u8], links: &mut [Link], steps: &mut [Step]) -> Result<Slip, Fault> {
-    let mut actors = [NO_ACTOR; ACTORS];
-    let mut delays = [Delay { value: 0 }; PAIRS];
-    let mut reach = [Reach { yes: false }; PAIRS];
+    let mut actors = [Actor::default(); ACTORS];
+    let mut delays = [Delay::none(); PAIRS];
+    let mut reach = [Reach::none(); PAIRS];
     let counts = read(text, &mut actors, links)?;
     let mut row = [Pointers::fresh(0, 1)?; LINKS];
     let n = counts.actors.min(ACTORS);

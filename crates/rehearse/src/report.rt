@@ -1,18 +1,16 @@
 // What a rehearsal is told as.
 use crate::holding::{Holding, holding_of};
-use records::Link;
+use records::{Link, Mark};
 use running::Step;
 use std::alloc::Global;
 use std::fmt;
 use std::fmt::Write;
 use wording::tell_steps;
 
-const LOCAL: u8 = 2;
-
 fn tell_link(told: &mut String, number: usize, link: Link, holding: Holding) -> fmt::Result {
     let Holding { held, most } = holding;
     write!(told, "link {number} holds {held} most {most} ")?;
-    if link.mark == LOCAL {
+    if link.mark == Mark::Local as u8 {
         writeln!(told, "home")?;
         return Ok(());
     }

@@ -4,6 +4,8 @@ use Rattle.std.proofs.lemmas.Bool.{cases_Bool, or_parts, not-false, leb-false, l
 use Rattle.records.specs.declared.fault.Layer.TheVariants.{Run}
 use Rattle.records.specs.declared.tables.Link.{Link}
 use Rattle.records.specs.Faults.{fault}
+use Rattle.records.specs.declared.refusal.Refusal.TheVariants as refusal
+use Rattle.records.specs.declared.refusal.Refusal.{Refusal}
 use Rattle.planning.specs.Checks.{refuse_if}
 use Rattle.planning.proofs.Passing.{err_not_ok, first_ok, next_ok, passed}
 use Rattle.guards.specs.Levels.{Level}
@@ -44,20 +46,20 @@ lets_not_blocked act a l x lets =
     (λ (g : guarded l ≡ false). simp g)
     (cases_Bool (guarded l))
 
-no_link_refuses : (number : ℕ) (blocked : Option ℕ) → refuse_at number blocked ≡ Ok tt → blocked ≡ None
-no_link_refuses number None e = refl
-no_link_refuses number (Some i) e = absurd (err_not_ok (fault number Run i) e)
+no_link_refuses : (why : Refusal) (blocked : Option ℕ) → refuse_at why blocked ≡ Ok tt → blocked ≡ None
+no_link_refuses why None e = refl
+no_link_refuses why (Some i) e = absurd (err_not_ok (fault why Run i) e)
 
 entry_passed : (act : Act) (a : ℕ) (turn : Bool) (blocked : Option ℕ) (e : Entry) → entry_check act a turn blocked e ≡ Ok tt → EntryLets act turn e × (blocked ≡ None)
 entry_passed Start a turn blocked e ok =
-    let limit = refuse_if (leb 1000000000 e.starts) (fault 18 Run a) in
-    let busy = refuse_if (not turn || runs e.state) (fault 19 Run a) in
+    let limit = refuse_if (leb 1000000000 e.starts) (fault refusal.TooManyStarts Run a) in
+    let busy = refuse_if (not turn || runs e.state) (fault refusal.NotItsTurn Run a) in
     let rest = next_ok limit _ ok in
-    let idle = or_parts (not turn) (runs e.state) (passed _ (fault 19 Run a) (first_ok busy _ rest)) in
-    ((leb-false 1000000000 e.starts (passed _ (fault 18 Run a) (first_ok limit _ ok)), not-false turn idle.0, idle.1), no_link_refuses 20 blocked (next_ok busy _ rest))
+    let idle = or_parts (not turn) (runs e.state) (passed _ (fault refusal.NotItsTurn Run a) (first_ok busy _ rest)) in
+    ((leb-false 1000000000 e.starts (passed _ (fault refusal.TooManyStarts Run a) (first_ok limit _ ok)), not-false turn idle.0, idle.1), no_link_refuses refusal.EmptyLink blocked (next_ok busy _ rest))
 entry_passed Finish a turn blocked e ok =
-    let still = refuse_if (not (runs e.state)) (fault 21 Run a) in
-    (not-false (runs e.state) (passed _ (fault 21 Run a) (first_ok still _ ok)), no_link_refuses 23 blocked (next_ok still _ ok))
+    let still = refuse_if (not (runs e.state)) (fault refusal.Resting Run a) in
+    (not-false (runs e.state) (passed _ (fault refusal.Resting Run a) (first_ok still _ ok)), no_link_refuses refusal.Full blocked (next_ok still _ ok))
 
 entry_passes : (act : Act) (a : ℕ) (turn : Bool) (e : Entry) → EntryLets act turn e → entry_check act a turn None e ≡ Ok tt
 entry_passes Start a turn e (few, own, rests) = simp (lt-leb 1000000000 e.starts few, own, rests)
@@ -68,11 +70,11 @@ module _ (s : Site) (now : Standing) (act : Act) (a : ℕ) where
   pub allowed : act_check s now act a ≡ Ok tt → Allowed s now act a
   unfolding act_check
   allowed ok =
-      let known = refuse_if (leb (length s.actors) a) (fault 17 Run a) in
+      let known = refuse_if (leb (length s.actors) a) (fault refusal.Unknown Run a) in
       let sound = next_ok (fault_check now.fault) _ ok in
       let (lets, none) = entry_passed act a (has_turn s now a) (first_link (blocks act a) 0 s.links now.row) (entry_at now a) (next_ok known _ sound) in
       record {
-        below = leb-false (length s.actors) a (passed _ (fault 17 Run a) (first_ok known _ sound));
+        below = leb-false (length s.actors) a (passed _ (fault refusal.Unknown Run a) (first_ok known _ sound));
         entry = lets;
         guards = λ i h r. not_blocked act a (link_at s i) (level_at now.row i) (none_fails (blocks act a) 0 s.links now.row none i h r);
       }

@@ -10,6 +10,8 @@ use Rattle.records.specs.declared.tables.Edge.{Edge}
 use Rattle.records.specs.declared.tables.Link.{Link}
 use Rattle.records.specs.Faults.{fault}
 use Rattle.records.specs.Tables.{no_link, processor_of}
+use Rattle.records.specs.declared.refusal.Refusal.TheVariants as refusal
+use Rattle.records.specs.declared.refusal.Refusal.{Refusal}
 use Rattle.waits.specs.Events.{place}
 use Rattle.planning.specs.Checks.{refuse_if, refuse_first}
 use Rattle.planning.specs.Planning.{Given, Totals, plan_links, plan_totals, planned}
@@ -32,11 +34,11 @@ near_processors [] near = refl
 near_processors (x ∷ xs) near =
     or_from (ltb 15 x.processor) (far_processor xs) (le-ltb 15 x.processor (omega (arith, near 0 (omega arith)))) (near_processors xs (λ y h. near (suc y) (omega arith)))
 
-none_refused : {X : Type 0} (bad : X → Bool) (number : ℕ) (layer : Layer) (k : ℕ) (xs : List X) (d : X)
-    → ((i : ℕ) → i < length xs → bad (get_or xs i d) ≡ false) → refuse_first bad number layer k xs ≡ Ok tt
-none_refused bad number layer k [] d good = refl
-none_refused bad number layer k (x ∷ xs) d good =
-    cond-false _ _ _ (good 0 (omega arith)) ∙ none_refused bad number layer (k + 1) xs d (λ i h. good (suc i) (omega arith))
+none_refused : {X : Type 0} (bad : X → Bool) (why : Refusal) (layer : Layer) (k : ℕ) (xs : List X) (d : X)
+    → ((i : ℕ) → i < length xs → bad (get_or xs i d) ≡ false) → refuse_first bad why layer k xs ≡ Ok tt
+none_refused bad why layer k [] d good = refl
+none_refused bad why layer k (x ∷ xs) d good =
+    cond-false _ _ _ (good 0 (omega arith)) ∙ none_refused bad why layer (k + 1) xs d (λ i h. good (suc i) (omega arith))
 
 -- a local link, or one with cells
 abbrev Good : ℕ → Link → Type 0
@@ -81,8 +83,8 @@ module _ (d : Given) (t : Totals) (e : (planned d).answer ≡ Ok t) where
   unfolding open_check
   row_long largest row sound =
       let n = t.actors in let links = t.given + t.back in
-      let tables = refuse_if (short t (length d.actors) (length (planned d).links) row || far_processor (take n d.actors)) (fault 15 Run 0) in
-      let not_short = (or_parts (short t (length d.actors) (length (planned d).links) row) _ (passed _ (fault 15 Run 0) (first_ok tables _ sound))).0 in
+      let tables = refuse_if (short t (length d.actors) (length (planned d).links) row || far_processor (take n d.actors)) (fault refusal.UnfitTables Run 0) in
+      let not_short = (or_parts (short t (length d.actors) (length (planned d).links) row) _ (passed _ (fault refusal.UnfitTables Run 0) (first_ok tables _ sound))).0 in
       let after_few = (or_parts (ltb 64 n) _ not_short).1 in
       let after_actors = (or_parts (ltb (length d.actors) n) _ after_few).1 in
       ltb-false row links (or_parts (ltb (length (planned d).links) links) _ after_actors).1
@@ -142,5 +144,5 @@ module _ (d : Given) (t : Totals) (e : (planned d).answer ≡ Ok t) where
       )
       ) in
       let near = near_processors d.actors fits.processors in
-      let all = none_refused (unfit_link largest n) 16 Run 0 (plan_links d) no_link (good largest large) in
+      let all = none_refused (unfit_link largest n) refusal.UnfitLink Run 0 (plan_links d) no_link (good largest large) in
       rw (actors_are, links_are, not_short, near, actors_long, all) refl

@@ -3,6 +3,8 @@ use Rattle.std.specs.Prelude.{ℕ, ◌+◌, Bool, true, false, not, ◌||◌, So
 use Rattle.records.specs.declared.fault.Fault.{Fault}
 use Rattle.records.specs.declared.fault.Layer.TheVariants.{Run}
 use Rattle.records.specs.Faults.{fault, then}
+use Rattle.records.specs.declared.refusal.Refusal.TheVariants as refusal
+use Rattle.records.specs.declared.refusal.Refusal.{Refusal}
 use Rattle.planning.specs.Checks.{refuse_if}
 use Rattle.running.specs.declared.Act.{Act}
 use Rattle.running.specs.declared.Act.TheVariants.{Start, Finish}
@@ -19,20 +21,20 @@ runs Resting = false
 runs Running = true
 
 -- refused because of a link, if there is one
-abbrev pub refuse_at : ℕ → Option ℕ → Result Unit Fault
-refuse_at number None = Ok tt
-refuse_at number (Some link) = Err (fault number Run link)
+abbrev pub refuse_at : Refusal → Option ℕ → Result Unit Fault
+refuse_at why None = Ok tt
+refuse_at why (Some link) = Err (fault why Run link)
 
 -- what is refused of actor a, which has this entry, where the first link that stops the act is known; an actor that runs has
 -- its processor's turn, so that a processor runs exactly if the actor whose turn it is does
 abbrev pub entry_check : Act → ℕ → Bool → Option ℕ → Entry → Result Unit Fault
 entry_check Start a turn blocked e =
-    then (refuse_if (nat_le 1000000000 e.starts) (fault 18 Run a)) (λ _.
-    then (refuse_if (not turn || runs e.state) (fault 19 Run a)) (λ _.
-    refuse_at 20 blocked))
+    then (refuse_if (nat_le 1000000000 e.starts) (fault refusal.TooManyStarts Run a)) (λ _.
+    then (refuse_if (not turn || runs e.state) (fault refusal.NotItsTurn Run a)) (λ _.
+    refuse_at refusal.EmptyLink blocked))
 entry_check Finish a turn blocked e =
-    then (refuse_if (not (runs e.state)) (fault 21 Run a)) (λ _.
-    refuse_at 23 blocked)
+    then (refuse_if (not (runs e.state)) (fault refusal.Resting Run a)) (λ _.
+    refuse_at refusal.Full blocked)
 
 -- the entry after an accepted act; a finish has the number of the start that it ends
 abbrev pub entry_after : Act → Entry → Entry

@@ -3,3 +3,4 @@ pub mod Entries
 pub mod Runs
 pub mod Rehearsals
 pub mod Claims
+pub mod Words

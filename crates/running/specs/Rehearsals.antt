@@ -1,7 +1,7 @@
 -- A list of calls carried out, and a drawing planned, opened, run and closed.
 use Rattle.std.specs.Prelude.{ℕ, List, [], ◌∷◌, Ok, Err, Result}
 use Rattle.records.specs.declared.fault.Fault.{Fault}
-use Rattle.records.specs.Faults.{refusal_values}
+use Rattle.records.specs.Faults.{refusal_number, refusal_values}
 use Rattle.planning.specs.Planning.{Given, Totals, planned}
 use Rattle.guards.specs.Levels.{Level}
 use Rattle.running.specs.declared.Act.TheVariants.{Start as Starts, Finish as Finishes}
@@ -38,7 +38,7 @@ abbrev pub answer_values : Answer → ℕ × List ℕ
 answer_values Open = (0, [])
 answer_values Done = (1, [])
 answer_values (Told c) = (2, cells_values c)
-answer_values (Refused f) = (3, f.number ∷ refusal_values f)
+answer_values (Refused f) = (3, refusal_number f.refusal ∷ refusal_values f)
 
 -- a call that was not made yet
 abbrev pub unasked : Call → Step

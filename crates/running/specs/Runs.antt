@@ -7,6 +7,7 @@ use Rattle.records.specs.declared.tables.Actor.{Actor}
 use Rattle.records.specs.declared.tables.Link.{Link}
 use Rattle.records.specs.Faults.{fault, then}
 use Rattle.records.specs.Tables.{no_link, processor_of}
+use Rattle.records.specs.declared.refusal.Refusal.TheVariants as refusal
 use Rattle.planning.specs.Checks.{refuse_if, refuse_first}
 use Rattle.planning.specs.Planning.{Totals}
 use Rattle.guards.specs.Levels.{Level}
@@ -81,8 +82,8 @@ unfit_link largest n l =
 -- what makes a run unsound
 unfoldable pub open_check : ℕ → Totals → List Actor → List Link → ℕ → Result Unit Fault
 open_check largest t actors links row =
-    then (refuse_if (short t (length actors) (length links) row || far_processor (take t.actors actors)) (fault 15 Run 0)) (λ _.
-    refuse_first (unfit_link largest t.actors) 16 Run 0 (take (t.given + t.back) links))
+    then (refuse_if (short t (length actors) (length links) row || far_processor (take t.actors actors)) (fault refusal.UnfitTables Run 0)) (λ _.
+    refuse_first (unfit_link largest t.actors) refusal.UnfitLink Run 0 (take (t.given + t.back) links))
 
 abbrev pub fault_of : Result Unit Fault → Option Fault
 fault_of (Ok _) = None
@@ -114,7 +115,7 @@ has_turn s now a = slice_index now.turns (processor_of s.actors a) == a
 unfoldable pub act_check : Site → Standing → Act → ℕ → Result Unit Fault
 act_check s now act a =
     then (fault_check now.fault) (λ _.
-    then (refuse_if (nat_le (length s.actors) a) (fault 17 Run a)) (λ _.
+    then (refuse_if (nat_le (length s.actors) a) (fault refusal.Unknown Run a)) (λ _.
     entry_check act a (has_turn s now a) (first_link (blocks act a) 0 s.links now.row) (entry_at now a)))
 
 abbrev pub turns_after : Site → Act → ℕ → List ℕ → List ℕ
@@ -150,7 +151,7 @@ link_at s i = slice_index_or s.links i no_link
 unfoldable pub cells_answer : Site → Standing → ℕ → Result Cells Fault
 cells_answer s now i =
     then (fault_check now.fault) (λ _.
-    then (refuse_if (nat_le (length s.links) i || nat_lt 1 (link_at s i).mark) (fault 17 Run i)) (λ _.
+    then (refuse_if (nat_le (length s.links) i || nat_lt 1 (link_at s i).mark) (fault refusal.Unknown Run i)) (λ _.
     Ok (buffer (link_at s i) (entry_at now (link_at s i).sender) (entry_at now (link_at s i).receiver))))
 
 abbrev pub cells_values : Cells → List ℕ

@@ -1,5 +1,7 @@
-// What a run means: its records, and definitions about them. The code that meets them is in the crate `runs`.
+// What a run means: its records, how they are told, and definitions about them. The code that meets them is in the crate `runs`.
 #![tactic(auto)]
+
+mod words;
 
 use records::Fault;
 

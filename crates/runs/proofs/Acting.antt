@@ -4,6 +4,7 @@ use Rattle.std.proofs.lemmas.Bool.{le-leb, lt-leb}
 use Rattle.records.specs.declared.fault.Fault.{Fault}
 use Rattle.records.specs.declared.fault.Layer.TheVariants.{Run}
 use Rattle.records.specs.Faults.{fault, then}
+use Rattle.records.specs.declared.refusal.Refusal.TheVariants as refusal
 use Rattle.planning.specs.Checks.{refuse_if}
 use Rattle.running.specs.declared.Act.{Act}
 use Rattle.running.specs.Entries.{entry_check}
@@ -15,17 +16,17 @@ module _ (s : Site) (now : Standing) (act : Act) (a : ℕ) where
   abbrev pub by_entry : Result Unit Fault
   by_entry = entry_check act a (has_turn s now a) (first_link (blocks act a) 0 s.links now.row) (entry_at now a)
 
-  pub unknown_refuses : now.fault ≡ None → length s.actors ≤ a → act_check s now act a ≡ Err (fault 17 Run a)
+  pub unknown_refuses : now.fault ≡ None → length s.actors ≤ a → act_check s now act a ≡ Err (fault refusal.Unknown Run a)
   unfolding act_check
   unknown_refuses e h =
-      ap (λ o. then (fault_check o) (λ _. then (refuse_if (leb (length s.actors) a) (fault 17 Run a)) (λ _. by_entry))) e
-      ∙ ap (λ b. then (refuse_if b (fault 17 Run a)) (λ _. by_entry)) (le-leb (length s.actors) a h)
+      ap (λ o. then (fault_check o) (λ _. then (refuse_if (leb (length s.actors) a) (fault refusal.Unknown Run a)) (λ _. by_entry))) e
+      ∙ ap (λ b. then (refuse_if b (fault refusal.Unknown Run a)) (λ _. by_entry)) (le-leb (length s.actors) a h)
 
   pub entry_decides : now.fault ≡ None → a < length s.actors → act_check s now act a ≡ by_entry
   unfolding act_check
   entry_decides e h =
-      ap (λ o. then (fault_check o) (λ _. then (refuse_if (leb (length s.actors) a) (fault 17 Run a)) (λ _. by_entry))) e
-      ∙ ap (λ b. then (refuse_if b (fault 17 Run a)) (λ _. by_entry)) (lt-leb (length s.actors) a h)
+      ap (λ o. then (fault_check o) (λ _. then (refuse_if (leb (length s.actors) a) (fault refusal.Unknown Run a)) (λ _. by_entry))) e
+      ∙ ap (λ b. then (refuse_if b (fault refusal.Unknown Run a)) (λ _. by_entry)) (lt-leb (length s.actors) a h)
 
   -- a refusal leaves the run as it stands
   pub refused_stands : (f : Fault) → act_check s now act a ≡ Err f → after_act s now act a ≡ now

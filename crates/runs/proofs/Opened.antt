@@ -8,6 +8,7 @@ use Rattle.records.specs.declared.tables.Actor.{Actor}
 use Rattle.records.specs.declared.tables.Link.{Link}
 use Rattle.records.specs.Faults.{fault}
 use Rattle.records.specs.Tables.{no_link}
+use Rattle.records.specs.declared.refusal.Refusal.TheVariants as refusal
 use Rattle.planning.specs.Checks.{refuse_if, refuse_first}
 use Rattle.planning.specs.Planning.{Totals, planned}
 use Rattle.planning.proofs.Passing.{first_ok, next_ok, passed, none_bad}
@@ -69,7 +70,7 @@ module _ (largest : ℕ) (t : Totals) (actors : List Actor) (links : List Link) 
 
   usable : tables ≡ false
   unfolding open_check
-  usable = passed _ (fault 15 Run 0) (first_ok (refuse_if tables (fault 15 Run 0)) (λ _. refuse_first (unfit_link largest t.actors) 16 Run 0 front) sound)
+  usable = passed _ (fault refusal.UnfitTables Run 0) (first_ok (refuse_if tables (fault refusal.UnfitTables Run 0)) (λ _. refuse_first (unfit_link largest t.actors) refusal.UnfitLink Run 0 front) sound)
 
   not_short : short t (length actors) (length links) row ≡ false
   not_short = (or_parts (short t (length actors) (length links) row) (far_processor (take t.actors actors)) usable).0
@@ -86,8 +87,8 @@ module _ (largest : ℕ) (t : Totals) (actors : List Actor) (links : List Link) 
   link_fine : (k : ℕ) → k < length front → Fine largest t.actors (get_or front k no_link)
   unfolding open_check
   link_fine k h =
-      let all = next_ok (refuse_if tables (fault 15 Run 0)) (λ _. refuse_first (unfit_link largest t.actors) 16 Run 0 front) sound in
-      fine largest t.actors (get_or front k no_link) (none_bad (unfit_link largest t.actors) 16 Run 0 front no_link all k h)
+      let all = next_ok (refuse_if tables (fault refusal.UnfitTables Run 0)) (λ _. refuse_first (unfit_link largest t.actors) refusal.UnfitLink Run 0 front) sound in
+      fine largest t.actors (get_or front k no_link) (none_bad (unfit_link largest t.actors) refusal.UnfitLink Run 0 front no_link all k h)
 
   pub few : length (take t.actors actors) ≤ 64
   few = omega (arith, long, counts_low)

@@ -5,11 +5,10 @@ ghost use Rattle.planning.specs.Checks.{refuse_first};
 ghost use Rattle.planner.specs.Slips.{totals_of};
 ghost use Rattle.running.specs.Runs.{far_processor, short, unfit_link, open_check};
 
-use crate::faults::run_fault;
 use crate::rows::is_guarded;
-use guards::{Bound, Guard};
+use guards::Guard;
 use planner::Slip;
-use records::{Actor, Fault, Link};
+use records::{Actor, Fault, Layer, Link, Refusal};
 
 /// How many actors a run has entries for.
 pub(crate) const ENTRIES: usize = 64;
@@ -58,11 +57,11 @@ fn is_unfit(link: Link, n: usize, largest: u32) -> bool
 }
 
 fn check_links(links: &[Link], n: usize, largest: u32) -> Result<(), Fault>
-    ensures { result ≡ refuse_first (unfit_link largest n) 16 Run 0 links.now }
+    ensures { result ≡ refuse_first (unfit_link largest n) Refusal.UnfitLink Run 0 links.now }
 {
     for i in 0..links.len() {
         if is_unfit(links[i], n, largest) {
-            return Err(run_fault(16, i));
+            return Err(Fault::new(Refusal::UnfitLink, Layer::Run, i));
         }
     }
     Ok(())
@@ -102,10 +101,10 @@ pub(crate) fn check_open<G: Guard>(
     links: &[Link],
     row: usize,
 ) -> Result<(), Fault>
-    ensures { result ≡ open_check G.Guard.largest (totals_of slip.now) actors.now links.now row }
+    ensures { result ≡ open_check G.Guard.LARGEST (totals_of slip.now) actors.now links.now row }
 {
     if is_unusable(slip, actors, links.len(), row) {
-        return Err(run_fault(15, 0));
+        return Err(Fault::new(Refusal::UnfitTables, Layer::Run, 0));
     }
-    check_links(links_of(slip, links), slip.actors(), G::LARGEST.value())
+    check_links(links_of(slip, links), slip.actors(), G::LARGEST)
 }

@@ -2,8 +2,7 @@
 ghost use Rattle.std.specs.Prelude.{◌≡◌};
 ghost use Rattle.running.specs.Entries.{entry_check, entry_if};
 
-use crate::faults::run_fault;
-use records::Fault;
+use records::{Fault, Layer, Refusal};
 use running::{Act, Entry, State};
 
 /// How often an actor can start.
@@ -22,23 +21,27 @@ pub(crate) fn advance(
     ensures entry { entry.new ≡ entry_if (entry_check act actor turn blocked entry.old) act entry.old }
 {
     match (entry.state, act) {
-        (_, Act::Start) if entry.starts >= MOST_STARTS => Err(run_fault(18, actor)),
-        (State::Running, Act::Start) => Err(run_fault(19, actor)),
+        (_, Act::Start) if entry.starts >= MOST_STARTS => Err(Fault::new(
+            Refusal::TooManyStarts,
+            Layer::Run,
+            actor,
+        )),
+        (State::Running, Act::Start) => Err(Fault::new(Refusal::NotItsTurn, Layer::Run, actor)),
         (State::Resting, Act::Start) => {
             if !turn {
-                return Err(run_fault(19, actor));
+                return Err(Fault::new(Refusal::NotItsTurn, Layer::Run, actor));
             }
             if let Some(link) = blocked {
-                return Err(run_fault(20, link));
+                return Err(Fault::new(Refusal::EmptyLink, Layer::Run, link));
             }
             entry.state = State::Running;
             entry.starts += 1;
             Ok(())
         }
-        (State::Resting, Act::Finish) => Err(run_fault(21, actor)),
+        (State::Resting, Act::Finish) => Err(Fault::new(Refusal::Resting, Layer::Run, actor)),
         (State::Running, Act::Finish) => {
             if let Some(link) = blocked {
-                return Err(run_fault(23, link));
+                return Err(Fault::new(Refusal::Full, Layer::Run, link));
             }
             entry.state = State::Resting;
             entry.finishes = entry.starts;

@@ -3,7 +3,6 @@
 
 mod checks;
 mod entries;
-mod faults;
 mod rehearsals;
 mod rows;
 mod run;

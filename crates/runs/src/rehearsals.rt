@@ -24,9 +24,9 @@ fn run_plan<G: Guard>(
     steps: &mut [Step],
 ) -> Slip
     ensures slip { result ≡ slip }
-    ensures steps { steps.new ≡ carried (site_of (totals_of slip) actors.now links.now) (opened G.Guard.largest (totals_of slip) actors.now links.now (map G.Guard.level row.old)) steps.old }
-    ensures levels { map G.Guard.level row.new ≡ (carried_to (site_of (totals_of slip) actors.now links.now) (opened G.Guard.largest (totals_of slip) actors.now links.now (map G.Guard.level row.old)) steps.old).row }
-    ensures stand { Stand (guarded_if (opened G.Guard.largest (totals_of slip) actors.now links.now (map G.Guard.level row.old)).fault) (take (slip.given + slip.back) links.now) row.old row.new }
+    ensures steps { steps.new ≡ carried (site_of (totals_of slip) actors.now links.now) (opened G.Guard.LARGEST (totals_of slip) actors.now links.now (map G.Guard.level row.old)) steps.old }
+    ensures levels { map G.Guard.level row.new ≡ (carried_to (site_of (totals_of slip) actors.now links.now) (opened G.Guard.LARGEST (totals_of slip) actors.now links.now (map G.Guard.level row.old)) steps.old).row }
+    ensures stand { Stand (guarded_if (opened G.Guard.LARGEST (totals_of slip) actors.now links.now (map G.Guard.level row.old)).fault) (take (slip.given + slip.back) links.now) row.old row.new }
 {
     let mut run = open(slip, actors, links, row);
     run.carry_out(steps);
@@ -53,12 +53,12 @@ pub fn rehearse<G: Guard>(
     ensures delays { delays.new ≡ (planned (drawing actors.now links.old given lead delays.old reach.old)).delays }
     ensures reach { reach.new ≡ (planned (drawing actors.now links.old given lead delays.old reach.old)).reach }
     ensures room { IfOk result (λ s. s.given + s.back ≤ length links.old) }
-    ensures steps { steps.new ≡ (rehearsed G.Guard.largest (drawing actors.now links.old given lead delays.old reach.old) (map G.Guard.level row.old) steps.old).steps }
-    ensures answers { map (λ x. answer_values x.answer) steps.new ≡ map (λ x. answer_values x.answer) (rehearsed G.Guard.largest (drawing actors.now links.old given lead delays.old reach.old) (map G.Guard.level row.old) steps.old).steps }
-    ensures levels { map G.Guard.level row.new ≡ (rehearsed G.Guard.largest (drawing actors.now links.old given lead delays.old reach.old) (map G.Guard.level row.old) steps.old).row }
-    ensures stand { Stand (guarded_in G.Guard.largest (drawing actors.now links.old given lead delays.old reach.old) (map G.Guard.level row.old)) (plan_links_of (planned (drawing actors.now links.old given lead delays.old reach.old)).answer links.new) row.old row.new }
+    ensures steps { steps.new ≡ (rehearsed G.Guard.LARGEST (drawing actors.now links.old given lead delays.old reach.old) (map G.Guard.level row.old) steps.old).steps }
+    ensures answers { map (λ x. answer_values x.answer) steps.new ≡ map (λ x. answer_values x.answer) (rehearsed G.Guard.LARGEST (drawing actors.now links.old given lead delays.old reach.old) (map G.Guard.level row.old) steps.old).steps }
+    ensures levels { map G.Guard.level row.new ≡ (rehearsed G.Guard.LARGEST (drawing actors.now links.old given lead delays.old reach.old) (map G.Guard.level row.old) steps.old).row }
+    ensures stand { Stand (guarded_in G.Guard.LARGEST (drawing actors.now links.old given lead delays.old reach.old) (map G.Guard.level row.old)) (plan_links_of (planned (drawing actors.now links.old given lead delays.old reach.old)).answer links.new) row.old row.new }
     ensures claim { (t : Totals) → (planned (drawing actors.now links.old given lead delays.old reach.old)).answer ≡ Ok t → Claim (drawing actors.now links.old given lead delays.old reach.old) t }
-    ensures law { (t : Totals) → (planned (drawing actors.now links.old given lead delays.old reach.old)).answer ≡ Ok t → (plan_opened G.Guard.largest (drawing actors.now links.old given lead delays.old reach.old) t (map G.Guard.level row.old)).fault ≡ None → Law (drawing actors.now links.old given lead delays.old reach.old) steps.new (map G.Guard.level row.new) }
+    ensures law { (t : Totals) → (planned (drawing actors.now links.old given lead delays.old reach.old)).answer ≡ Ok t → (plan_opened G.Guard.LARGEST (drawing actors.now links.old given lead delays.old reach.old) t (map G.Guard.level row.old)).fault ≡ None → Law (drawing actors.now links.old given lead delays.old reach.old) steps.new (map G.Guard.level row.new) }
 {
     let slip = plan(actors, links, given, lead, delays, reach)?;
     Ok(run_plan(slip, actors, links, row, steps))

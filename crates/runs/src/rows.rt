@@ -70,7 +70,7 @@ fn passed<G: Guard>(act: Act, actor: usize, link: Link, guard: G) -> G
 
 // The guard of this link at opening.
 fn fresh_guard<G: Guard>(link: Link, guard: G) -> G
-    requires { guarded link ≡ true → unfit G.Guard.largest link.delay link.size ≡ false }
+    requires { guarded link ≡ true → unfit G.Guard.LARGEST link.delay link.size ≡ false }
     ensures level { G.Guard.level result ≡ set_up link (G.Guard.level guard) }
     ensures stands { guarded link ≡ false → result ≡ guard }
 {
@@ -112,7 +112,7 @@ pub(crate) fn pass_all<G: Guard>(act: Act, actor: usize, links: &[Link], row: &m
 
 /// Gives each kept and back link a fresh guard with its delay as count and its size.
 pub(crate) fn set_up_all<G: Guard>(links: &[Link], row: &mut [G])
-    requires { GuardsFit G.Guard.largest links.now }
+    requires { GuardsFit G.Guard.LARGEST links.now }
     ensures levels { map G.Guard.level row.new ≡ each set_up links.now (map G.Guard.level row.old) }
     ensures stand { Stand guarded links.now row.old row.new }
 {

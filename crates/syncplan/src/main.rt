@@ -4,7 +4,7 @@
 ghost use Rattle.std.specs.Prelude.{◌≤◌, length, IfOk};
 
 use listing::list;
-use paths::{Delay, Reach};
+use paths::{Algebra, Delay, Reach};
 use records::{Actor, Link};
 use std::io;
 use std::io::{Read, Write};
@@ -29,19 +29,10 @@ fn read_text(input: &mut impl Read, text: &mut [u8]) -> io::Result<usize>
 
 fn main(rt: HostRuntime) -> io::Result<()> {
     let mut text = [0u8; TEXT];
-    let mut actors = [Actor {
-        processor: 0,
-        estimate: 0,
-    }; 64];
-    let mut links = [Link {
-        sender: 0,
-        receiver: 0,
-        delay: 0,
-        mark: 0,
-        size: 0,
-    }; 271];
-    let mut delays = [Delay { value: 0 }; 4096];
-    let mut reach = [Reach { yes: false }; 4096];
+    let mut actors = [Actor::default(); 64];
+    let mut links = [Link::default(); 271];
+    let mut delays = [Delay::none(); 4096];
+    let mut reach = [Reach::none(); 4096];
     let mut out = [0u8; 16384];
     let count = read_text(&mut rt.stdin(), &mut text)?;
     match list(

@@ -1,7 +1,7 @@
 // The calls of a stored run, as records.
-use crate::words::Words;
 use running::{Answer, Call, Step};
 use std::alloc::{AllocError, Global};
+use words::Words;
 
 fn call_of(word: &[u8], number: usize) -> Call {
     match word {

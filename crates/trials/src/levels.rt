@@ -1,8 +1,9 @@
 // What a guard holds, found out by taking and sending.
 use guards::Guard;
+use records::Fault;
 
 /// How many values wait, out of how many there can be.
-#[derive(Clone, Copy)]
+#[derive(Clone, Copy, PartialEq, Eq)]
 pub struct Level {
     pub count: u32,
     pub size: u32,
@@ -11,21 +12,14 @@ pub struct Level {
 // More than any guard can hold.
 const TURNS: u32 = 65536;
 
-fn takes<G: Guard>(guard: G) -> u32 {
+// How often a step goes well on a copy of the guard.
+fn times<G: Guard, F: FnMut(&mut G) -> Result<(), Fault>>(guard: G, mut step: F) -> u32
+    requires { F.IsAlwaysCallable step }
+{
     let mut spare = guard;
-    for taken in 0..TURNS {
-        if spare.take().is_err() {
-            return taken;
-        }
-    }
-    TURNS
-}
-
-fn sends<G: Guard>(guard: G) -> u32 {
-    let mut spare = guard;
-    for sent in 0..TURNS {
-        if spare.send().is_err() {
-            return sent;
+    for turn in 0..TURNS {
+        if step(&mut spare).is_err() {
+            return turn;
         }
     }
     TURNS
@@ -33,9 +27,9 @@ fn sends<G: Guard>(guard: G) -> u32 {
 
 /// The level of a guard, which is left as it is.
 pub fn level_of<G: Guard>(guard: G) -> Level {
-    let count = takes(guard);
+    let count = times(guard, |g| g.take());
     Level {
         count,
-        size: count.saturating_add(sends(guard)),
+        size: count.saturating_add(times(guard, |g| g.send())),
     }
 }

@@ -7,7 +7,6 @@ mod stored;
 mod tables;
 mod transcript;
 mod trial;
-mod words;
 
 use guards::{Counter, Guard, Pointers};
 use std::alloc::Global;

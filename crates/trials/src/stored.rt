@@ -1,5 +1,5 @@
 // The blocks of a file of stored runs: a line of words and numbers, then the parts of one run.
-use crate::words::Words;
+use words::Words;
 
 /// The kind of the guards of a run.
 #[derive(Clone, Copy)]

@@ -1,7 +1,6 @@
 // The tables that a stored run is planned in, and the changes that are made in them.
-use crate::words::Words;
-use paths::{Delay, Reach};
 use records::{Actor, Link};
+use words::Words;
 
 pub const ACTORS: usize = 128;
 
@@ -9,26 +8,14 @@ pub const LINKS: usize = 512;
 
 pub const PAIRS: usize = 4096;
 
-pub const NO_ACTOR: Actor = Actor {
-    processor: 0,
-    estimate: 0,
-};
-
-pub const NO_LINK: Link = Link {
-    sender: 0,
-    receiver: 0,
-    delay: 0,
-    mark: 0,
-    size: 0,
-};
-
-pub const NO_DELAY: Delay = Delay { value: 0 };
-
-pub const NO_REACH: Reach = Reach { yes: false };
+// The next number, or the largest that a record can hold.
+fn small_number(words: &mut Words<'_>) -> u32 {
+    u32::try_from(words.number()).unwrap_or(u32::MAX)
+}
 
 fn change_actor(words: &mut Words<'_>, actors: &mut [Actor]) {
     let number = words.number();
-    let processor = words.small_number();
+    let processor = small_number(words);
     if number < actors.len() {
         actors[number].processor = processor;
     }
@@ -37,11 +24,11 @@ fn change_actor(words: &mut Words<'_>, actors: &mut [Actor]) {
 fn change_link(words: &mut Words<'_>, links: &mut [Link]) {
     let number = words.number();
     let link = Link {
-        sender: words.small_number(),
-        receiver: words.small_number(),
-        delay: words.small_number(),
+        sender: small_number(words),
+        receiver: small_number(words),
+        delay: small_number(words),
         mark: u8::try_from(words.number()).unwrap_or(u8::MAX),
-        size: words.small_number(),
+        size: small_number(words),
     };
     if number < links.len() {
         links[number] = link;

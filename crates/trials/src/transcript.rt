@@ -12,8 +12,9 @@ pub const STALE: Level = Level { count: 3, size: 7 };
 
 fn tell_guards<G: Guard>(told: &mut String, row: &[G]) -> fmt::Result {
     for (number, guard) in row.iter().enumerate() {
-        let Level { count, size } = level_of(*guard);
-        if count != STALE.count || size != STALE.size {
+        let level = level_of(*guard);
+        if level != STALE {
+            let Level { count, size } = level;
             writeln!(told, "guard {number} {count} {size}")?;
         }
     }

@@ -1,12 +1,13 @@
 // One stored run tried: by its calls, one after the other, or as a rehearsal.
 use crate::calls::steps_of;
 use crate::stored::Stored;
-use crate::tables::{ACTORS, LINKS, NO_ACTOR, NO_DELAY, NO_LINK, NO_REACH, PAIRS, change};
+use crate::tables::{ACTORS, LINKS, PAIRS, change};
 use crate::transcript::{STALE, transcript};
 use guards::Guard;
+use paths::{Algebra, Delay, Reach};
 use planner::{Slip, plan};
 use reader::read;
-use records::Fault;
+use records::{Actor, Fault, Link};
 use running::{Answer, Call, Cells, Step};
 use runs::{Run, open, rehearse};
 use std::alloc::Global;
@@ -55,10 +56,10 @@ fn run_through<G: Guard>(
     row: &mut [G],
     steps: &mut [Step],
 ) -> Result<Slip, Fault> {
-    let mut actors = [NO_ACTOR; ACTORS];
-    let mut links = [NO_LINK; LINKS];
-    let mut delays = [NO_DELAY; PAIRS];
-    let mut reach = [NO_REACH; PAIRS];
+    let mut actors = [Actor::default(); ACTORS];
+    let mut links = [Link::default(); LINKS];
+    let mut delays = [Delay::none(); PAIRS];
+    let mut reach = [Reach::none(); PAIRS];
     let counts = read(stored.text, &mut actors, &mut links)?;
     let n = counts.actors.min(ACTORS);
     let slip = plan(
@@ -83,10 +84,10 @@ fn rehearse_through<G: Guard>(
     row: &mut [G],
     steps: &mut [Step],
 ) -> Result<Slip, Fault> {
-    let mut actors = [NO_ACTOR; ACTORS];
-    let mut links = [NO_LINK; LINKS];
-    let mut delays = [NO_DELAY; PAIRS];
-    let mut reach = [NO_REACH; PAIRS];
+    let mut actors = [Actor::default(); ACTORS];
+    let mut links = [Link::default(); LINKS];
+    let mut delays = [Delay::none(); PAIRS];
+    let mut reach = [Reach::none(); PAIRS];
     let counts = read(stored.text, &mut actors, &mut links)?;
     let n = counts.actors.min(ACTORS);
     rehearse(

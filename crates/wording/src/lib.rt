@@ -1,8 +1,6 @@
-// The words in which the steps of a run, and refusals, are told.
+// The lines in which the steps of a run are told.
 #![tactic(auto)]
 
-mod faults;
 mod steps;
 
-pub use faults::ToldFault;
 pub use steps::tell_steps;

@@ -8,11 +8,10 @@ ghost use Rattle.runs.specs.Alone.{Stand, moved_if};
 
 use super::{Run, Tables};
 use crate::entries::advance;
-use crate::faults::run_fault;
 use crate::rows::{first_blocked, pass_all};
 use crate::turns::turn_after;
 use guards::Guard;
-use records::Fault;
+use records::{Fault, Layer, Refusal};
 use running::Act;
 
 // A finish passes the processor's turn on.
@@ -50,7 +49,7 @@ impl<'actors, 'links, 'row, G: Guard> Run<'actors, 'links, 'row, G> {
             return Err(fault);
         }
         if actor >= self.tables.actors.len() {
-            return Err(run_fault(17, actor));
+            return Err(Fault::new(Refusal::Unknown, Layer::Run, actor));
         }
         let processor = self.tables.actors[actor].processor as usize;
         let turn = self.turns[processor] == actor;

@@ -4,9 +4,8 @@ ghost use Rattle.records.specs.Faults.{told};
 ghost use Rattle.running.specs.Runs.{site, standing, buffer, cells_answer, cells_values};
 
 use super::Run;
-use crate::faults::run_fault;
 use guards::Guard;
-use records::{Fault, Link};
+use records::{Fault, Layer, Link, Refusal};
 use running::{Cells, Entry};
 
 // Dropped links have mark 0, kept ones 1.
@@ -37,7 +36,7 @@ impl<'actors, 'links, 'row, G: Guard> Run<'actors, 'links, 'row, G> {
             return Err(fault);
         }
         if link >= self.tables.links.len() || self.tables.links[link].mark > LAST_CROSS_MARK {
-            return Err(run_fault(17, link));
+            return Err(Fault::new(Refusal::Unknown, Layer::Run, link));
         }
         let link = self.tables.links[link];
         let sender = self.entries[link.sender as usize];

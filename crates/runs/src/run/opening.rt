@@ -33,8 +33,8 @@ fn cut_tables<'actors, 'links, G: Guard>(
 ) -> Tables<'actors, 'links>
     ensures actors { result.actors.now ≡ take slip.now.actors actors.now }
     ensures links { result.links.now ≡ take (slip.now.given + slip.now.back) links.now }
-    ensures fault { result.fault ≡ fault_of (open_check G.Guard.largest (totals_of slip.now) actors.now links.now row) }
-    ensures guards { is_some result.fault ≡ false → GuardsFit G.Guard.largest result.links.now }
+    ensures fault { result.fault ≡ fault_of (open_check G.Guard.LARGEST (totals_of slip.now) actors.now links.now row) }
+    ensures guards { is_some result.fault ≡ false → GuardsFit G.Guard.LARGEST result.links.now }
 {
     Tables {
         actors: actors_of(slip, actors),
@@ -45,7 +45,7 @@ fn cut_tables<'actors, 'links, G: Guard>(
 
 // Sets the guards up and answers whose turn it is on each processor, unless the tables have a fault.
 fn prepare<G: Guard>(tables: &Tables<'_, '_>, row: &mut [G]) -> [usize; 16]
-    requires { is_some tables.now.fault ≡ false → GuardsFit G.Guard.largest tables.now.links.now }
+    requires { is_some tables.now.fault ≡ false → GuardsFit G.Guard.LARGEST tables.now.links.now }
     ensures turns { result ≡ turns_if tables.now.fault tables.now.actors.now }
     ensures levels { map G.Guard.level row.new ≡ row_if tables.now.fault tables.now.links.now (map G.Guard.level row.old) }
     ensures stand { Stand (guarded_if tables.now.fault) tables.now.links.now row.old row.new }
@@ -71,9 +71,9 @@ pub fn open<'actors, 'links, 'row, G: Guard>(
     ensures slip { result.slip ≡ slip }
     ensures named { result.row.ghost_name ≡ row.entry.ghost_name }
     ensures site { site result.tables.actors.now result.tables.links.now ≡ site_of (totals_of slip) actors.now links.now }
-    ensures standing { standing result.tables.fault result.entries result.turns (map G.Guard.level result.row.now) ≡ opened G.Guard.largest (totals_of slip) actors.now links.now (map G.Guard.level row.old) }
+    ensures standing { standing result.tables.fault result.entries result.turns (map G.Guard.level result.row.now) ≡ opened G.Guard.LARGEST (totals_of slip) actors.now links.now (map G.Guard.level row.old) }
     ensures stand { Stand (guarded_if result.tables.fault) result.tables.links.now row.old result.row.now }
-    ensures opens { OpensPlans G.Guard.largest (totals_of slip) actors.now links.now (length row.old) result.tables.fault }
+    ensures opens { OpensPlans G.Guard.LARGEST (totals_of slip) actors.now links.now (length row.old) result.tables.fault }
 {
     let tables = cut_tables::<G>(&slip, actors, links, row.len());
     let turns = prepare(&tables, row);

@@ -1,4 +1,5 @@
 use Rattle.std.proofs.Common.{ℕ, List, ap, ◌∙◌, arith}
+use Rattle.records.specs.declared.refusal.Refusal.TheVariants as refusal
 use Rattle.listing.specs.Listing.{fit_answer, fit_output}
 use Rattle.listing.proofs.Fitting.{answers, leaves}
 use Rattle.listing.proofs.write.write_refusal.Goals as goal

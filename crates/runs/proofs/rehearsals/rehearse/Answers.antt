@@ -15,7 +15,7 @@ use Rattle.runs.proofs.rehearsals.rehearse.Goals as goal
 
 pub returns-in_err-slip : goal.returns-in_err-slip
 returns-in_err-slip g c =
-    let largest = g.G.Guard.largest in
+    let largest = g.G.Guard.LARGEST in
     let d = drawing c.args.actors.now c.args.links.now c.args.given c.args.lead c.args.delays.now c.args.reach.now in
     let levels = map g.G.Guard.level c.args.row.now in
     let steps = c.args.steps.now in
@@ -42,7 +42,7 @@ returns-in_err-slip g c =
 
 pub returns : goal.returns
 returns g c =
-    let largest = g.G.Guard.largest in
+    let largest = g.G.Guard.LARGEST in
     let means = g.G.Guard.level in
     let d = drawing c.args.actors.now c.args.links.now c.args.given c.args.lead c.args.delays.now c.args.reach.now in
     let actors = c.args.actors.now in

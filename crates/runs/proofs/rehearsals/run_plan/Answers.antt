@@ -19,7 +19,7 @@ returns g c =
     let carry = c.carry_out.ensures in
     let left = c.carry_out.new.self.row.now in
     let s = site_of t actors links in
-    let first = opened g.G.Guard.largest t actors links (map means row) in
+    let first = opened g.G.Guard.LARGEST t actors links (map means row) in
     let as-planned : (X : Type 0) (f : Site → Standing → X)
     → f (site run.tables.actors.now run.tables.links.now) (standing run.tables.fault run.entries run.turns (map means run.row.now)) ≡ f s first =
     λ X f. ap (λ x. f x (standing run.tables.fault run.entries run.turns (map means run.row.now))) start.site ∙ ap (f s) start.standing in

@@ -10,7 +10,7 @@ pub returns-then-n-lt3 : goal.returns-then-n-lt3
 unfolding line_of
 returns-then-n-lt3 c =
     let e : framed c.args.raw.now ≡ false = grind (arith, nat_tests) in
-    ap Err c.at_line.ensures ∙ sym (cond-false _ _ _ e)
+    ap Err c.new.ensures ∙ sym (cond-false _ _ _ e)
 
 pub returns-in-R : goal.returns-in-R
 returns-in-R c =
@@ -33,4 +33,4 @@ returns-in_default c =
     let r : eqb (get_or c.args.raw.now 0 0) 82 ≡ false = grind (arith, nat_tests) in
     let a : eqb (get_or c.args.raw.now 0 0) 65 ≡ false = grind (arith, nat_tests) in
     let l : eqb (get_or c.args.raw.now 0 0) 76 ≡ false = grind (arith, nat_tests) in
-    ap Err c.at_line-in_default.ensures ∙ sym (line_other _ c.args.raw.now f r a l)
+    ap Err c.new-in_default.ensures ∙ sym (line_other _ c.args.raw.now f r a l)

@@ -9,7 +9,7 @@ pub returns-then-n-eq0 : goal.returns-then-n-eq0
 unfolding number_of
 returns-then-n-eq0 c =
     let e : ill_sized c.args.self.now.bytes.now ≡ true = grind (arith, nat_tests) in
-    ap Err c.at_line.ensures ∙ sym (cond-true _ _ _ e)
+    ap Err c.new.ensures ∙ sym (cond-true _ _ _ e)
 
 pub returns : goal.returns
 unfolding number_of

@@ -28,10 +28,10 @@ returns-then-actor-self g c =
     let self = c.args.self.now in
     let s = site self.tables.actors.now self.tables.links.now in
     let before = standing self.tables.fault self.entries self.turns (map g.G.Guard.level self.row.now) in
-    let refused = unknown_refuses s before c.args.act c.args.actor c.in_default.is c.if-actor-self.true ∙ ap Err (sym c.run_fault.ensures) in
+    let refused = unknown_refuses s before c.args.act c.args.actor c.in_default.is c.if-actor-self.true ∙ ap Err (sym c.new.ensures) in
     record {
       answer = sym refused;
-      standing = sym (refused_stands s before c.args.act c.args.actor c.run_fault.result refused);
+      standing = sym (refused_stands s before c.args.act c.args.actor c.new.result refused);
       stand = λ k h. refl;
       tables = refl;
       slip = refl;

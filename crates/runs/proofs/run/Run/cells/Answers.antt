@@ -28,7 +28,7 @@ returns-then-link-self g c =
       | then-link-self-via-else-link-self+then-self-link-gt-LAST_CROSS_MARK w ↦
           or_right (leb (length links) i) (ltb 1 (get_or links i no_link).mark) (lt-ltb 1 (get_or links i no_link).mark w.if-self-link-gt-LAST_CROSS_MARK.true)
     ] in
-    let is = ap Err c.run_fault.ensures ∙ sym (unknown_tells s before i c.in_default.is none) in
+    let is = ap Err c.new.ensures ∙ sym (unknown_tells s before i c.in_default.is none) in
     record { answer = is; view = ap (told cells_values) is }
 
 pub returns : goal.returns

@@ -8,14 +8,14 @@ use Rattle.runs.proofs.run.opening.cut_tables.Goals as goal
 
 pub invariant_of-result : goal.invariant_of-result
 invariant_of-result g c =
-    let largest = g.G.Guard.largest in
+    let largest = g.G.Guard.LARGEST in
     let t = totals_of c.args.slip.now in
     let actors = c.args.actors.now in
     let links = c.args.links.now in
     let row = c.args.row in
     let front = sym c.links_of.ensures in
     let near = sym c.actors_of.ensures in
-    let ok : is_some c.fault_of.result ≡ false → open_check g.G.Guard.largest (totals_of c.args.slip.now) c.args.actors.now c.args.links.now c.args.row ≡ Ok tt =
+    let ok : is_some c.fault_of.result ≡ false → open_check g.G.Guard.LARGEST (totals_of c.args.slip.now) c.args.actors.now c.args.links.now c.args.row ≡ Ok tt =
     λ h. sym c.check_open.ensures ∙ none_ok c.check_open.result (ap is_some (sym c.fault_of.ensures) ∙ h) in
     record {
       few = λ h. subst (λ (xs : List Actor). length xs ≤ 64) near (few largest t actors links row (ok h));
@@ -26,12 +26,12 @@ invariant_of-result g c =
 
 pub returns : goal.returns
 returns g c =
-    let largest = g.G.Guard.largest in
+    let largest = g.G.Guard.LARGEST in
     let t = totals_of c.args.slip.now in
     let actors = c.args.actors.now in
     let links = c.args.links.now in
     let row = c.args.row in
-    let ok : is_some c.fault_of.result ≡ false → open_check g.G.Guard.largest (totals_of c.args.slip.now) c.args.actors.now c.args.links.now c.args.row ≡ Ok tt =
+    let ok : is_some c.fault_of.result ≡ false → open_check g.G.Guard.LARGEST (totals_of c.args.slip.now) c.args.actors.now c.args.links.now c.args.row ≡ Ok tt =
     λ h. sym c.check_open.ensures ∙ none_ok c.check_open.result (ap is_some (sym c.fault_of.ensures) ∙ h) in
     record {
       actors = c.actors_of.ensures;

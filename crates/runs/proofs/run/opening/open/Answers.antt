@@ -9,7 +9,7 @@ use Rattle.runs.proofs.run.opening.open.Goals as goal
 pub returns : goal.returns
 returns g c =
     let t = totals_of c.args.slip in
-    let largest = g.G.Guard.largest in
+    let largest = g.G.Guard.LARGEST in
     let means = g.G.Guard.level in
     let actors = c.args.actors.now in
     let links = c.args.links.now in
@@ -18,7 +18,7 @@ returns g c =
     let fault = c.cut_tables-tables.result.fault in
     let front = c.cut_tables-tables.result.links.now in
     let first = c.cut_tables-tables.result.actors.now in
-    let check : c.cut_tables-tables.result.fault ≡ fault_of (open_check g.G.Guard.largest (totals_of c.args.slip) c.args.actors.now c.args.links.now (length (map g.G.Guard.level c.args.row.now))) =
+    let check : c.cut_tables-tables.result.fault ≡ fault_of (open_check g.G.Guard.LARGEST (totals_of c.args.slip) c.args.actors.now c.args.links.now (length (map g.G.Guard.level c.args.row.now))) =
     cut.fault ∙ ap (λ k. fault_of (open_check largest t actors links k)) (sym (length-map row means)) in
     record {
       slip = refl;
