@@ -1,6 +1,6 @@
 // The records of the two tables that a caller lends, and the edges that they stand for.
-ghost use Rattle.records.specs.Tables.{link_edge};
-ghost use Rattle.std.specs.Prelude.{◌≡◌};
+ghost use Rattle.records.specs.Tables.{link_edge, mark_number};
+ghost use Rattle.std.specs.Prelude.{◌≡◌, ◌==◌};
 
 /// A task in the fixed order of its processor.
 #[derive(Clone, Copy, PartialEq, Eq, Debug, Default)]
@@ -34,6 +34,15 @@ pub struct Link {
     pub mark: u8,
     /// The cells of the link's buffer.
     pub size: u32,
+}
+
+impl Link {
+    /// Whether the link has this mark.
+    pub fn has_mark(&self, mark: Mark) -> bool
+        ensures { result ≡ (self.now.mark == mark_number mark) }
+    {
+        self.mark == mark as u8
+    }
 }
 
 /// An edge of the graph that the actors span: a link, or a step of a processor's order.

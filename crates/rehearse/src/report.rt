@@ -10,7 +10,7 @@ use wording::tell_steps;
 fn tell_link(told: &mut String, number: usize, link: Link, holding: Holding) -> fmt::Result {
     let Holding { held, most } = holding;
     write!(told, "link {number} holds {held} most {most} ")?;
-    if link.mark == Mark::Local as u8 {
+    if link.has_mark(Mark::Local) {
         writeln!(told, "home")?;
         return Ok(());
     }

@@ -47,7 +47,7 @@ pub enum Call {
 }
 
 /// What a run answers to a call.
-#[derive(Clone, Copy)]
+#[derive(Clone, Copy, PartialEq, Eq, Debug)]
 pub enum Answer {
     /// The call was not made yet.
     Open,
@@ -60,7 +60,7 @@ pub enum Answer {
 }
 
 /// A call with its answer.
-#[derive(Clone, Copy)]
+#[derive(Clone, Copy, PartialEq, Eq, Debug)]
 pub struct Step {
     pub call: Call,
     pub answer: Answer,
