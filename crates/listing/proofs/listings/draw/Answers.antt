@@ -16,12 +16,6 @@ returns-in_err-counts c =
           (read_refused R f c.in_err-counts.ensures.answer) (p.1 ∙ ap Err p.2) c.read.ensures.actors c.read.ensures.links;
     }
 
-pub slice_bounds-plan-end : goal.slice_bounds-plan-end
-slice_bounds-plan-end c =
-    let R = reading c.args.text.now (length c.args.actors.now) (length c.args.links.now) in
-    let d = read_passed R c.in_ok-counts.counts c.in_ok-counts.ensures.answer in
-    actors_within c.args.actors.now c.args.links.now c.args.delays.now c.args.reach.now R d.0 d.1 c.in_ok-counts.counts d.2 c.read.new.actors c.read.ensures.actors c.read.auto.actors
-
 pub returns : goal.returns
 unfolding listed
 returns c =

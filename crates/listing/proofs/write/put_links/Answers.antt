@@ -4,11 +4,6 @@ use Rattle.listing.proofs.Fitting.{written_more, written_none}
 use Rattle.listing.proofs.Passes.{next_line, next_length, no_line}
 use Rattle.listing.proofs.write.put_links.Goals as goal
 
-pub put-at-requires : goal.put-at-requires
-put-at-requires c =
-    let more = next_length c.args.links.now c.loop-number.number _ _ c.loop-number-test.true (c.as_bytes.ensures.bytes ∙ c.link_line.ensures) in
-    omega (arith, c.loop-number.invariant.0)
-
 pub loop-number-preserved : goal.loop-number-preserved
 loop-number-preserved c =
     let comes = c.as_bytes.ensures.bytes ∙ c.link_line.ensures in
@@ -18,12 +13,3 @@ loop-number-preserved c =
     let rest : List ℕ = link_lines (c.loop-number.number + 1) (drop (c.loop-number.number + 1) c.args.links.now) in
     let put = written_more c.loop-number.out c.loop-number.at c.as_bytes.result.now rest long in
     (omega (arith, c.loop-number.invariant.0), cc)
-
-pub returns : goal.returns
-returns c =
-    let none = no_line c.args.links.now c.loop-number.number c.loop-number-test.false in
-    let none-long = ap length none in
-    record {
-      end = omega (arith, c.loop-number.invariant.0);
-      output = sym (ap (λ (l : List ℕ). written c.loop-number.out c.loop-number.at l) none ∙ written_none c.loop-number.out c.loop-number.at) ∙ c.loop-number.invariant.1;
-    }

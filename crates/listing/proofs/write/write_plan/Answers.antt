@@ -15,15 +15,6 @@ lengths : (c : Else-not-lines_fit) → length c.as_bytes-first.result.now + leng
 lengths c =
     omega (arith, together c, three_lengths c.as_bytes-first.result.now (link_lines 0 c.args.links.now) c.as_bytes-last.result.now)
 
-pub put-links_at-requires : goal.put-links_at-requires
-put-links_at-requires c = omega (arith, lengths (goal.at.put-links_at-requires c).Else-not-lines_fit)
-
-pub put_links-last_at-requires : goal.put_links-last_at-requires
-put_links-last_at-requires c = omega (arith, lengths (goal.at.put_links-last_at-requires c).Else-not-lines_fit)
-
-pub put-requires : goal.put-requires
-put-requires c = omega (arith, lengths (goal.at.put-requires c).Else-not-lines_fit)
-
 pub returns : goal.returns
 returns c =
     let first : List ℕ = c.as_bytes-first.result.now in

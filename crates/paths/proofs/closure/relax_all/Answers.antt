@@ -3,12 +3,6 @@ use Rattle.paths.proofs.Rows.{row_before, rows_apart}
 use Rattle.paths.proofs.Rounds.{rows_more, rows_all}
 use Rattle.paths.proofs.closure.relax_all.Goals as goal
 
-pub overflow_mul-via : goal.overflow_mul-via
-overflow_mul-via g c = omega (arith, row_before c.args.k c.args.n c.args.n c.requires.below)
-
-pub overflow_mul-row : goal.overflow_mul-row
-overflow_mul-row g c = omega (arith, row_before c.loop-i.i c.args.n c.args.n c.loop-i-test.true)
-
 pub relax_row-requires : goal.relax_row-requires
 relax_row-requires g c = record {
   row_within = omega (arith, row_before c.loop-i.i c.args.n c.args.n c.loop-i-test.true);
