@@ -1,14 +1,53 @@
--- Steps of a test of every number below another.
-use Rattle.std.proofs.Common.{◌≡◌, ℕ, zero, suc, ◌+◌, ◌<◌, ◌≤◌, Bool, true, false, ap, ◌∙◌, ⊎_elim, add-one, arith}
-use Rattle.std.proofs.lemmas.Bool.{and_left, and_right, and_from, cases_lt}
+-- A test of every number below another, and the chains that compute it.
+use Rattle.std.proofs.Common.{◌≡◌, ℕ, zero, suc, ◌+◌, Bool, true, false, not, ◌&&◌, ◌||◌, List, [], ◌∷◌, Option, refl, sym, ap, ◌∙◌, zero-add, arith}
+use Rattle.std.proofs.Math.Bool.{and_assoc, and_comm}
+use Rattle.std.proofs.iter.Yields.{nat_range_steps}
+use Rattle.std.proofs.lemmas.Iterator.{YieldsList-from_range}
+use Rattle.std.proofs.lemmas.Iterator.Search.{all_from_yields_List, any_from_yields_List}
+use Rattle.std.specs.Fn.{Called}
+use Rattle.std.specs.Iterator.{YieldsThen}
+use Rattle.std.specs.List.{FoldsTo, list_all, list_any, range_with_len}
+use Rattle.std.specs.Option.{MatchOption}
+use Rattle.std.specs.declared.ops.Range.{Range}
+use denote.Param.Members.{Mut}
 use Rattle.planning.specs.Groups.{all_below}
 
-pub all_more : (p : ℕ → Bool) (k : ℕ) → p k ≡ true → all_below p k ≡ true → all_below p (k + 1) ≡ true
-all_more p k here below = rw add-one (and_from (p k) (all_below p k) here below)
+-- the numbers of a range, of which the last stands apart
+all_last : (p : ℕ → Bool) (a k : ℕ) → list_all p (range_with_len a (suc k)) ≡ (p (a + k) && list_all p (range_with_len a k))
+all_last p a zero = let e : a ≡ a + 0 = omega arith in ap (λ i. p i && true) e
+all_last p a (suc k) =
+    let rest : Bool = list_all p (range_with_len (a + 1) k) in
+    let e : (a + 1) + k ≡ a + suc k = omega arith in
+    ap (λ x. p a && x) (all_last p (a + 1) k) ∙ ap (λ i. p a && (p i && rest)) e
+    ∙ sym (and_assoc (p a) (p (a + suc k)) rest) ∙ ap (λ x. x && rest) (and_comm (p a) (p (a + suc k))) ∙ and_assoc (p (a + suc k)) (p a) rest
 
-pub all_fails : (p : ℕ → Bool) (k w : ℕ) → w < k → p w ≡ false → all_below p k ≡ false
-all_fails p zero w h e = absurd (omega arith)
-all_fails p (suc k) w h e =
-    ⊎_elim (λ (l : w < k). and_right (p k) (all_below p k) (all_fails p k w l e))
-    (λ (l : k ≤ w). let s : k ≡ w = omega arith in and_left (p k) (all_below p k) (ap p s ∙ e))
-    (cases_lt w k)
+pub all_is_below : (p : ℕ → Bool) (k : ℕ) → list_all p (range_with_len 0 k) ≡ all_below p k
+all_is_below p zero = refl
+all_is_below p (suc k) =
+    all_last p 0 k ∙ ap (λ i. p i && list_all p (range_with_len 0 k)) (zero-add k) ∙ ap (λ x. p k && x) (all_is_below p k)
+
+not_or : (a b : Bool) → not (a || b) ≡ (not a && not b)
+not_or true b = refl
+not_or false b = refl
+
+not_any : {X : Type 0} (p : X → Bool) (xs : List X) → not (list_any p xs) ≡ list_all (λ x. not (p x)) xs
+not_any p [] = refl
+not_any p (x ∷ xs) = not_or (p x) (list_any p xs) ∙ ap (λ b. not (p x) && b) (not_any p xs)
+
+module _ {F : Type 0} {g : Mut F (ℕ × Unit {0}) Bool} (test : ℕ → Bool) (n : ℕ) (u : Range ℕ) (f : F) (r : Bool) where
+  -- what `(0..n).all(test)` answers
+  pub all_below_ran :
+      (xs : List ℕ) × (o : Option ℕ) × (j : F) × YieldsThen nat_range_steps (record { start = 0; end = n }) xs o u × FoldsTo (λ p x q. Called g p (x, tt) true q) f xs j
+      × MatchOption o (r ≡ true) (λ x. (r ≡ false) × ((h : F) × Called g j (x, tt) false h))
+      → ((x : ℕ) (b : Bool) (q : F) → Called g f (x, tt) b q → (q ≡ f) × (b ≡ test x)) → r ≡ all_below test n
+  all_below_ran ran tests =
+      all_from_yields_List test u f r ran (YieldsList-from_range 0 n n refl (omega arith)) tests ∙ all_is_below test n
+
+  -- what `!(0..n).any(test)` answers
+  pub none_below_ran :
+      (xs : List ℕ) × (o : Option ℕ) × (j : F) × YieldsThen nat_range_steps (record { start = 0; end = n }) xs o u × FoldsTo (λ p x q. Called g p (x, tt) false q) f xs j
+      × MatchOption o (r ≡ false) (λ x. (r ≡ true) × ((h : F) × Called g j (x, tt) true h))
+      → ((x : ℕ) (b : Bool) (q : F) → Called g f (x, tt) b q → (q ≡ f) × (b ≡ test x)) → not r ≡ all_below (λ w. not (test w)) n
+  none_below_ran ran tests =
+      ap not (any_from_yields_List test u f r ran (YieldsList-from_range 0 n n refl (omega arith)) tests)
+      ∙ not_any test (range_with_len 0 n) ∙ all_is_below (λ w. not (test w)) n

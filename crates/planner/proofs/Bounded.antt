@@ -7,6 +7,7 @@ use Rattle.records.specs.declared.tables.Edge.{Edge}
 use Rattle.records.specs.declared.tables.Link.{Link}
 use Rattle.records.specs.Tables.{link_edge, processor_of}
 use Rattle.planning.specs.Edges.{last_on, edge_into, order_edge, orders, twins, without, Within}
+use Rattle.planner.specs.Skipping.{but}
 use Rattle.planner.specs.Within.{EndsBelow}
 
 last_below : (actors : List Actor) (p k n : ℕ) → k ≤ n → IfSome (last_on actors p k) (λ u. u < n)
@@ -30,11 +31,11 @@ orders_from : (actors : List Actor) (a k : ℕ) → a + k ≤ length actors → 
 orders_from actors a zero h = tt
 orders_from actors a (suc k) h = (order_within actors a (omega arith), orders_from actors (a + 1) k (omega arith))
 
-links_within : (n : ℕ) (links : List Link) → EndsBelow n links → Within n (map link_edge links)
+pub links_within : (n : ℕ) (links : List Link) → EndsBelow n links → Within n (map link_edge links)
 links_within n [] known = tt
 links_within n (l ∷ ls) known = (known 0 (omega arith), links_within n ls (λ k h. known (suc k) (omega arith)))
 
-ends_from_within : (n : ℕ) (links : List Link) → Within n (map link_edge links) → EndsBelow n links
+pub ends_from_within : (n : ℕ) (links : List Link) → Within n (map link_edge links) → EndsBelow n links
 ends_from_within n [] w k h = absurd (omega arith)
 ends_from_within n (l ∷ ls) w zero h = w.0
 ends_from_within n (l ∷ ls) w (suc k) h = ends_from_within n ls w.1 k (omega arith)
@@ -53,9 +54,13 @@ append_within : (n : ℕ) (es fs : List Edge) → Within n es → Within n fs �
 append_within n [] fs p q = q
 append_within n (e ∷ es) fs p q = (p.0, append_within n es fs p.1 q)
 
--- the orders with some of the links
-pub edges_within : (actors : List Actor) (links : List Link) (i : ℕ) (e : Edge) → EndsBelow (length actors) links
-    → Within (length actors) (orders actors ++ without i e 0 (map link_edge links))
-edges_within actors links i e known =
-    append_within (length actors) (orders actors) (without i e 0 (map link_edge links)) (orders_from actors 0 (length actors) (omega arith))
-    (without_within (length actors) i e 0 (map link_edge links) (links_within (length actors) links known))
+but_within : (n : ℕ) (skip : Option (ℕ × Edge)) (es : List Edge) → Within n es → Within n (but skip 0 es)
+but_within n None es h = h
+but_within n (Some s) es h = without_within n s.0 s.1 0 es h
+
+-- the orders with the links that are not left out
+pub edges_within : (actors : List Actor) (links : List Link) (skip : Option (ℕ × Edge)) → EndsBelow (length actors) links
+    → Within (length actors) (orders actors ++ but skip 0 (map link_edge links))
+edges_within actors links skip known =
+    append_within (length actors) (orders actors) (but skip 0 (map link_edge links)) (orders_from actors 0 (length actors) (omega arith))
+    (but_within (length actors) skip (map link_edge links) (links_within (length actors) links known))

@@ -3,15 +3,14 @@ pub mod Orders
 pub mod Laying
 pub mod Refusing
 pub mod Below
-pub mod Stands
 pub mod Heads
-pub mod Appended
+pub mod Found
 pub mod Bounded
+pub mod Ends
 pub mod Filling
 pub mod Rewriting
 pub mod Soundness
 pub mod Exits
 pub mod Surveying
-pub mod Placed
 pub mod Finishing
 pub mod Planned

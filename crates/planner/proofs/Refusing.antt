@@ -1,12 +1,62 @@
--- Steps of a search for the first element that is refused.
-use Rattle.std.proofs.Common.{◌≡◌, ℕ, ◌+◌, ◌<◌, ◌≤◌, Bool, true, false, List, length, get_or, drop, Ok, Err, ◌∙◌}
-use Rattle.std.proofs.lemmas.List.{at_drop_more, at_drop_all}
+-- A search for the first element that is refused.
+use Rattle.std.proofs.Common.{◌≡◌, ℕ, zero, suc, ◌+◌, ◌<◌, ◌≤◌, Bool, true, false, cond, List, [], ◌∷◌, length, get_or, drop, Some, None, Option, Ok, Err, Result, sym, refl, ap, ◌∙◌}
+use Rattle.std.specs.List.{position, position_from, find, range_with_len}
+use Rattle.std.specs.Option.{option_map}
 use Rattle.std.proofs.lemmas.Bool.{cond-true, cond-false}
+use Rattle.std.proofs.lemmas.List.{at_drop_more, at_drop_all}
+use Rattle.std.proofs.lemmas.Iterator.Adapters.{position_from-zero}
+use Rattle.records.specs.declared.fault.Fault.{Fault}
 use Rattle.records.specs.declared.fault.Layer.{Layer}
 use Rattle.records.specs.Faults.{fault}
 use Rattle.records.specs.declared.refusal.Refusal.{Refusal}
 use Rattle.planning.specs.Checks.{refuse_first}
+use Rattle.planner.proofs.Counting.{same_number}
 
+module _ (why : Refusal) (layer : Layer) where
+  -- the refusal at a place that was found
+  abbrev refuse_at : Option ℕ → Result Unit Fault
+  refuse_at None = Ok tt
+  refuse_at (Some i) = Err (fault why layer i)
+
+  refuse_choice : (b : Bool) (k : ℕ) (o : Option ℕ) → cond b (Err (fault why layer k)) (refuse_at o) ≡ refuse_at (cond b (Some k) o)
+  refuse_choice true k o = refl
+  refuse_choice false k o = refl
+
+  module _ {X : Type 0} (bad : X → Bool) where
+    refuse_from : (k : ℕ) (xs : List X) → refuse_first bad why layer k xs ≡ refuse_at (position_from bad k xs)
+    refuse_from k [] = refl
+    refuse_from k (x ∷ xs) =
+        ap (cond (bad x) (Err (fault why layer k))) (refuse_from (k + 1) xs) ∙ refuse_choice (bad x) k (position_from bad (k + 1) xs)
+
+    refuse_position : (xs : List X) (r : Option ℕ) → r ≡ position bad xs → refuse_first bad why layer 0 xs ≡ refuse_at r
+    refuse_position xs r found = refuse_from 0 xs ∙ ap refuse_at (sym (found ∙ position_from-zero bad xs))
+
+    pub position_refuses : (xs : List X) (i : ℕ) (f : Fault) (r : Option ℕ) → r ≡ Some i → r ≡ position bad xs → f ≡ fault why layer i
+        → Err f ≡ refuse_first bad why layer 0 xs
+    position_refuses xs i f r at found is = ap Err is ∙ ap refuse_at (sym at) ∙ sym (refuse_position xs r found)
+
+    pub position_passes : (xs : List X) (r : Option ℕ) → r ≡ None → r ≡ position bad xs → Ok tt ≡ refuse_first bad why layer 0 xs
+    position_passes xs r at found = ap refuse_at (sym at) ∙ sym (refuse_position xs r found)
+
+  -- of the numbers below another
+  module _ (bad : ℕ → Bool) where
+    found_from : (a k : ℕ) → find bad (range_with_len a k) ≡ position_from bad a (range_with_len a k)
+    found_from a zero = refl
+    found_from a (suc k) = ap (cond (bad a) (Some a)) (found_from (a + 1) k)
+
+    refuse_found : (n : ℕ) (r : Option ℕ) → option_map (λ x. x) r ≡ find bad (range_with_len 0 n) → refuse_first bad why layer 0 (range_with_len 0 n) ≡ refuse_at r
+    refuse_found n r found =
+        refuse_from bad 0 (range_with_len 0 n) ∙ ap refuse_at (sym (sym (same_number r) ∙ found ∙ found_from 0 n))
+
+    pub found_refuses : (n i : ℕ) (r : Option ℕ) → r ≡ Some i → option_map (λ x. x) r ≡ find bad (range_with_len 0 n)
+        → Err (fault why layer i) ≡ refuse_first bad why layer 0 (range_with_len 0 n)
+    found_refuses n i r at found = ap refuse_at (sym at) ∙ sym (refuse_found n r found)
+
+    pub found_passes : (n : ℕ) (r : Option ℕ) → r ≡ None → option_map (λ x. x) r ≡ find bad (range_with_len 0 n)
+        → Ok tt ≡ refuse_first bad why layer 0 (range_with_len 0 n)
+    found_passes n r at found = ap refuse_at (sym at) ∙ sym (refuse_found n r found)
+
+-- at the step of a loop that has come to i
 module _ {X : Type 0} (bad : X → Bool) (why : Refusal) (layer : Layer) (xs : List X) (i : ℕ) where
   pub refuse_here : (d : X) → i < length xs → bad (get_or xs i d) ≡ true → refuse_first bad why layer i (drop i xs) ≡ Err (fault why layer i)
   refuse_here d h t = at_drop_more (refuse_first bad why layer i) xs i d h ∙ cond-true _ _ _ t

@@ -1,8 +1,7 @@
 -- A table whose front is written anew, one record after the other.
 use Rattle.std.proofs.Common.{◌≡◌, ℕ, ◌+◌, ◌-◌, ◌<◌, List, [], ◌∷◌, ◌++◌, map, length, get_or, take, drop, set, sym, refl, ap, ◌∙◌, add-zero, zero-add, arith}
-use native.Mathlib.Nat.{sub-zero}
 use Rattle.std.proofs.lemmas.List.Edits.{map_over_more}
-use Rattle.std.proofs.lemmas.List.{append_assoc, map-append, length-map, length-take-le, get_or-append_right, get_or_default, get_or-drop, get_or-take, drop_more, set_at, take-append-drop, take-map, take_more}
+use Rattle.std.proofs.lemmas.List.{append_assoc, map-append, length-take-le, get_or-append_right, get_or_default, get_or-drop, drop_more, set_at, take-append-drop, take_more}
 use Rattle.paths.specs.declared.delay.Delay.{Delay}
 use Rattle.records.specs.declared.tables.Link.{Link}
 use Rattle.records.specs.declared.tables.Actor.{Actor}
@@ -41,38 +40,27 @@ edges_numbered actors es k (l ∷ ls) = ap (λ fs. link_edge l ∷ fs) (edges_nu
 
 -- the first i links of xs are marked
 module _ (actors : List Actor) (es : List Edge) (xs ys : List Link) (i : ℕ) (is : ys ≡ marked actors es (take i xs) ++ drop i xs) where
-  edges_kept : map link_edge ys ≡ map link_edge xs
+  pub edges_kept : map link_edge ys ≡ map link_edge xs
   edges_kept =
       ap (map link_edge) is ∙ map-append link_edge (marked actors es (take i xs)) (drop i xs)
       ∙ ap (λ fs. fs ++ map link_edge (drop i xs)) (edges_numbered actors es 0 (take i xs))
       ∙ sym (map-append link_edge (take i xs) (drop i xs)) ∙ ap (map link_edge) (take-append-drop i xs)
 
-  -- among the first links of the table too
-  pub front_edges_kept : (all : ℕ) → map link_edge (take (all - 0) ys) ≡ map link_edge (take all xs)
-  front_edges_kept all =
-      ap (λ k. map link_edge (take k ys)) (sub-zero all) ∙ sym (take-map link_edge all ys) ∙ ap (take all) edges_kept ∙ take-map link_edge all xs
-
   -- one more is marked
-  pub marked_more : (all mark : ℕ) → es ≡ map link_edge (take all xs) → i < all → i < length xs
-      → mark ≡ mark_of actors (map link_edge (take (all - 0) ys)) i (link_edge (get_or (take (all - 0) ys) i no_link))
+  pub marked_more : (mark : ℕ) → es ≡ map link_edge xs → i < length xs
+      → mark ≡ mark_of actors (map link_edge ys) i (link_edge (get_or ys i no_link))
       → set ys i (with_mark (get_or ys i no_link) mark) ≡ marked actors es (take (i + 1) xs) ++ drop (i + 1) xs
-  marked_more all mark e below within m =
+  marked_more mark e within m =
       let long : length (marked actors es (take i xs)) ≡ i = length_numbered (mark_link actors es) 0 (take i xs) ∙ length-take-le i xs (omega arith) in
       let here : get_or ys i no_link ≡ get_or xs i no_link = ap (λ ls. get_or ls i no_link) is ∙ still_here (marked actors es (take i xs)) xs i no_link long in
-      let front : get_or (take (all - 0) ys) i no_link ≡ get_or xs i no_link = get_or-take (all - 0) ys i no_link (omega arith) ∙ here in
       let said : mark ≡ mark_of actors es i (link_edge (get_or xs i no_link)) =
-      m ∙ ap (λ fs. mark_of actors fs i (link_edge (get_or (take (all - 0) ys) i no_link))) (front_edges_kept all ∙ sym e)
-      ∙ ap (λ l. mark_of actors es i (link_edge l)) front in
+      m ∙ ap (λ fs. mark_of actors fs i (link_edge (get_or ys i no_link))) (edges_kept ∙ sym e)
+      ∙ ap (λ l. mark_of actors es i (link_edge l)) here in
       ap (λ l. set ys i (with_mark l mark)) here ∙ ap (λ k. set ys i (with_mark (get_or xs i no_link) k)) said
       ∙ ap (λ ls. set ls i (mark_link actors es i (get_or xs i no_link))) is ∙ numbered_more (mark_link actors es) xs i no_link within
 
 -- the first i links of xs are sized
 module _ (n : ℕ) (delays : List Delay) (xs ys : List Link) (i : ℕ) (within : i < length xs) (is : ys ≡ sized n delays (take i xs) ++ drop i xs) where
-  pub sized_not_yet : get_or ys i no_link ≡ get_or xs i no_link
-  sized_not_yet =
-      ap (λ ls. get_or ls i no_link) is
-      ∙ still_here (sized n delays (take i xs)) xs i no_link (length-map (take i xs) (size_link n delays) ∙ length-take-le i xs (omega arith))
-
   -- one more is sized
   pub sized_more : (size : ℕ) → i < length ys → size ≡ size_of n delays (get_or ys i no_link)
       → set ys i (with_size (get_or ys i no_link) size) ≡ sized n delays (take (i + 1) xs) ++ drop (i + 1) xs

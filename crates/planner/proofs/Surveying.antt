@@ -1,6 +1,5 @@
 -- The three ways in which a survey ends.
-use Rattle.std.proofs.Common.{◌≡◌, ℕ, ◌-◌, ◌*◌, List, ◌++◌, map, length, take, drop, Ok, Err, sym, ap, ◌∙◌}
-use native.Mathlib.Nat.{sub-zero}
+use Rattle.std.proofs.Common.{◌≡◌, ℕ, ◌*◌, List, ◌++◌, map, length, take, drop, Ok, Err, sym, ap, ◌∙◌}
 use Rattle.std.proofs.lemmas.List.{take_at}
 use Rattle.records.specs.declared.fault.Fault.{Fault}
 use Rattle.records.specs.declared.tables.Actor.{Actor}
@@ -15,19 +14,18 @@ use Rattle.planning.specs.Planning.{Given, Outcome, over, tables_check, cycles_c
 use Rattle.planning.proofs.Standing.{length_paths_over}
 
 -- a filled workspace
-pub filled_over : {M : Type 0} (s : Sight) (o : Ops M) (actors : List Actor) (links : List Link) (k j : ℕ) (cells after : List M) → k ≡ j
-    → after ≡ paths_over s o (length actors) (orders actors ++ map link_edge (take k links)) ++ drop (length actors * length actors) cells
-    → after ≡ over (paths_over s o (length actors) (orders actors ++ map link_edge (take j links))) cells
-filled_over s o actors links k j cells after e is =
-    let es : List Edge = orders actors ++ map link_edge (take j links) in
-    is ∙ ap (λ i. paths_over s o (length actors) (orders actors ++ map link_edge (take i links)) ++ drop (length actors * length actors) cells) e
-    ∙ ap (λ i. paths_over s o (length actors) es ++ drop i cells) (sym (length_paths_over o (length actors) s es))
+pub filled_over : {M : Type 0} (s : Sight) (o : Ops M) (actors : List Actor) (links : List Link) (cells after : List M)
+    → after ≡ paths_over s o (length actors) (orders actors ++ map link_edge links) ++ drop (length actors * length actors) cells
+    → after ≡ over (paths_over s o (length actors) (orders actors ++ map link_edge links)) cells
+filled_over s o actors links cells after is =
+    let es : List Edge = orders actors ++ map link_edge links in
+    is ∙ ap (λ i. paths_over s o (length actors) es ++ drop i cells) (sym (length_paths_over o (length actors) s es))
 
 -- its front
 pub front_of : {M : Type 0} (s : Sight) (o : Ops M) (n : ℕ) (es : List Edge) (cells after : List M) → after ≡ over (paths_over s o n es) cells
-    → take (n * n - 0) after ≡ paths_over s o n es
+    → take (n * n) after ≡ paths_over s o n es
 front_of s o n es cells after is =
-    ap (λ k. take k after) (sub-zero (n * n)) ∙ ap (take (n * n)) is ∙ take_at (paths_over s o n es) _ (n * n) (length_paths_over o n s es)
+    ap (take (n * n)) is ∙ take_at (paths_over s o n es) _ (n * n) (length_paths_over o n s es)
 
 module _ {X : Type 0} (d : Given) (go : Outcome X) where
   ends_refused : (f : Fault) → Err f ≡ tables_check d → unless (tables_check d) (refused d) (unless (cycles_check d) (deadlocked d) go) ≡ refused d f

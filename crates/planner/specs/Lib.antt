@@ -1,5 +1,6 @@
 pub mod Within
-pub mod Appending
+pub mod Pairs
+pub mod Skipping
 pub mod Views
 pub mod Slips
 pub mod Steps

@@ -5,7 +5,7 @@ ghost use Rattle.records.specs.Faults.{fault};
 ghost use Rattle.planning.specs.Checks.{bad_actor, bad_link, refuse_first, check_counts, check_tables, check_cycles};
 ghost use Rattle.planner.specs.Within.{Sound};
 
-use crate::tables::place;
+use crate::pairs::Pairs;
 use paths::Reach;
 use records::{Actor, Fault, Layer, Link, Refusal};
 
@@ -47,8 +47,8 @@ pub(crate) fn check_counts(
     Ok(())
 }
 
-fn is_bad_actor(actor: Actor) -> bool
-    ensures { result ≡ bad_actor actor }
+fn is_bad_actor(actor: &Actor) -> bool
+    ensures { result ≡ bad_actor actor.now }
 {
     actor.processor >= PROCESSORS || actor.estimate == 0 || actor.estimate > LONGEST_ESTIMATE
 }
@@ -56,16 +56,14 @@ fn is_bad_actor(actor: Actor) -> bool
 pub(crate) fn check_actors(actors: &[Actor]) -> Result<(), Fault>
     ensures { result ≡ refuse_first bad_actor Refusal.BadActor Table 0 actors.now }
 {
-    for i in 0..actors.len() {
-        if is_bad_actor(actors[i]) {
-            return Err(Fault::new(Refusal::BadActor, Layer::Table, i));
-        }
+    match actors.iter().position(is_bad_actor) {
+        Some(i) => Err(Fault::new(Refusal::BadActor, Layer::Table, i)),
+        None => Ok(()),
     }
-    Ok(())
 }
 
-fn is_bad_link(link: Link, n: usize) -> bool
-    ensures { result ≡ bad_link n link }
+fn is_bad_link(link: &Link, n: usize) -> bool
+    ensures { result ≡ bad_link n link.now }
 {
     link.sender as usize >= n || link.receiver as usize >= n || link.delay > LONGEST_DELAY
 }
@@ -73,12 +71,10 @@ fn is_bad_link(link: Link, n: usize) -> bool
 pub(crate) fn check_links(links: &[Link], n: usize) -> Result<(), Fault>
     ensures { result ≡ refuse_first (bad_link n) Refusal.BadLink Table 0 links.now }
 {
-    for i in 0..links.len() {
-        if is_bad_link(links[i], n) {
-            return Err(Fault::new(Refusal::BadLink, Layer::Table, i));
-        }
+    match links.iter().position(|link| is_bad_link(link, n)) {
+        Some(i) => Err(Fault::new(Refusal::BadLink, Layer::Table, i)),
+        None => Ok(()),
     }
-    Ok(())
 }
 
 // All that is refused about counts, tables and numbers.
@@ -95,24 +91,19 @@ pub(crate) fn check_tables(
 {
     check_counts(actors.len(), given, links.len(), lead, delays, reach)?;
     check_actors(actors)?;
-    check_links(&links[0..given], actors.len())
+    check_links(&links[..given], actors.len())
 }
 
 // The lowest actor on a delay-free cycle, by the table of who is reached by delay-free edges.
-pub(crate) fn check_cycles(free: &[Reach], n: usize) -> Result<(), Fault>
-    requires few { n ≤ 64 }
-    requires room { n * n ≤ length free.now }
-    ensures { result ≡ check_cycles n free.now }
+pub(crate) fn check_cycles(free: &Pairs<Reach>) -> Result<(), Fault>
+    ensures { result ≡ check_cycles free.now.n free.now.cells.now }
 {
-    for u in 0..n {
-        let at = place(n, u, u);
-        if free[at].yes {
-            return Err(Fault {
-                refusal: Refusal::Deadlock,
-                layer: Layer::Plan,
-                place: u,
-            });
-        }
+    match (0..free.n).find(|u| free.at(*u, *u).yes) {
+        Some(u) => Err(Fault {
+            refusal: Refusal::Deadlock,
+            layer: Layer::Plan,
+            place: u,
+        }),
+        None => Ok(()),
     }
-    Ok(())
 }

@@ -1,9 +1,8 @@
 // The edges of a drawing: the processors' orders, and the links.
 ghost use Rattle.std.specs.Prelude.{◌≡◌, ℕ, ◌+◌, ◌<◌, ◌≤◌, List, length, IfSome};
-ghost use Rattle.records.specs.Tables.{link_edge};
-ghost use Rattle.planning.specs.Edges.{last_on, order_edge, twins};
+ghost use Rattle.planning.specs.Edges.{last_on, order_edge};
 
-use records::{Actor, Edge, Link};
+use records::{Actor, Edge};
 
 // The highest actor below `below` on the processor.
 fn last_on(actors: &[Actor], processor: u32, below: usize) -> Option<usize>
@@ -11,12 +10,9 @@ fn last_on(actors: &[Actor], processor: u32, below: usize) -> Option<usize>
     ensures value { result ≡ last_on actors.now processor below }
     ensures within { IfSome result (λ u. u < below) }
 {
-    for u in (0..below).rev() {
-        if actors[u].processor == processor {
-            return Some(u);
-        }
-    }
-    None
+    actors[..below]
+        .iter()
+        .rposition(|actor| actor.processor == processor)
 }
 
 // The one edge of its processor's order that enters `v`.
@@ -26,40 +22,13 @@ pub(crate) fn order_edge(actors: &[Actor], v: usize) -> Edge
     ensures within { (result.sender < length actors.now) × (result.receiver < length actors.now) }
 {
     let processor = actors[v].processor;
-    match last_on(actors, processor, v) {
-        Some(before) => Edge {
-            sender: before,
-            receiver: v,
-            delay: 0,
-        },
-        None => match last_on(actors, processor, actors.len()) {
-            Some(last) => Edge {
-                sender: last,
-                receiver: v,
-                delay: 1,
-            },
-            None => Edge {
-                sender: v,
-                receiver: v,
-                delay: 1,
-            },
-        },
-    }
-}
-
-pub(crate) fn edge_of(link: Link) -> Edge
-    ensures { result ≡ link_edge link }
-{
+    let (sender, delay) = match last_on(actors, processor, v) {
+        Some(before) => (before, 0),
+        None => (last_on(actors, processor, actors.len()).unwrap_or(v), 1),
+    };
     Edge {
-        sender: link.sender as usize,
-        receiver: link.receiver as usize,
-        delay: link.delay,
+        sender,
+        receiver: v,
+        delay,
     }
-}
-
-// Whether two edges have equal sender, receiver and delay.
-pub(crate) fn are_twins(e: Edge, f: Edge) -> bool
-    ensures { result ≡ twins e f }
-{
-    e.sender == f.sender && e.receiver == f.receiver && e.delay == f.delay
 }

@@ -1,26 +1,26 @@
 // Groups and parts, and who stands for a group.
 ghost use Rattle.std.specs.Prelude.{◌≡◌, ◌<◌, ◌≤◌, length};
 ghost use Rattle.planning.specs.declared.End.TheVariants.{Entry, Exit};
+ghost use Rattle.planning.specs.Backs.{count};
 ghost use Rattle.planning.specs.Groups.{reaches, same_group, same_part, answered, end_group, opens_group, opens_part, grouped_if_joined, one_group, stands_better, stand_in};
+ghost use Rattle.planner.specs.Views.{seen};
 
 use crate::ground::Ground;
-use crate::tables::place;
 use planning::End;
 
-impl Ground<'_, '_, '_> {
+impl Ground<'_, '_> {
     // Whether some path leads from u to v.
     fn reaches(&self, u: usize, v: usize) -> bool
         requires { (u < length self.now.actors.now) × (v < length self.now.actors.now) }
-        ensures { result ≡ reaches (length self.now.actors.now) self.now.delays.now u v }
+        ensures { let g = seen self.now in result ≡ reaches (count g) g.delays u v }
     {
-        let at = place(self.actors.len(), u, v);
-        self.delays[at].value < u32::MAX
+        self.delays.at(u, v).value < u32::MAX
     }
 
     // Whether u and v reach each other.
     pub(crate) fn same_group(&self, u: usize, v: usize) -> bool
         requires { (u < length self.now.actors.now) × (v < length self.now.actors.now) }
-        ensures { result ≡ same_group (length self.now.actors.now) self.now.delays.now u v }
+        ensures { let g = seen self.now in result ≡ same_group (count g) g.delays u v }
     {
         self.reaches(u, v) && self.reaches(v, u)
     }
@@ -28,16 +28,15 @@ impl Ground<'_, '_, '_> {
     // Whether u and v are joined when direction is ignored.
     pub(crate) fn same_part(&self, u: usize, v: usize) -> bool
         requires { (u < length self.now.actors.now) × (v < length self.now.actors.now) }
-        ensures { result ≡ same_part (length self.now.actors.now) self.now.joined.now u v }
+        ensures { let g = seen self.now in result ≡ same_part (count g) g.joined u v }
     {
-        let at = place(self.actors.len(), u, v);
-        self.joined[at].yes
+        self.joined.at(u, v).yes
     }
 
     // Whether a path from u to v, if there is one, is answered by a path back.
     fn is_answered(&self, u: usize, v: usize) -> bool
         requires { (u < length self.now.actors.now) × (v < length self.now.actors.now) }
-        ensures { result ≡ answered (length self.now.actors.now) self.now.delays.now u v }
+        ensures { let g = seen self.now in result ≡ answered (count g) g.delays u v }
     {
         !self.reaches(u, v) || self.reaches(v, u)
     }
@@ -45,68 +44,35 @@ impl Ground<'_, '_, '_> {
     // Whether no edge from outside enters the group of u, or none leaves it.
     pub(crate) fn is_end(&self, end: End, u: usize) -> bool
         requires { u < length self.now.actors.now }
-        ensures { result ≡ end_group end (length self.now.actors.now) self.now.delays.now u }
+        ensures { let g = seen self.now in result ≡ end_group end (count g) g.delays u }
     {
+        let n = self.actors.len();
         match end {
-            End::Entry => self.is_entry(u),
-            End::Exit => self.is_exit(u),
+            End::Entry => (0..n).all(|w| self.is_answered(w, u)),
+            End::Exit => (0..n).all(|w| self.is_answered(u, w)),
         }
-    }
-
-    fn is_entry(&self, u: usize) -> bool
-        requires { u < length self.now.actors.now }
-        ensures { result ≡ end_group Entry (length self.now.actors.now) self.now.delays.now u }
-    {
-        for w in 0..self.actors.len() {
-            if !self.is_answered(w, u) {
-                return false;
-            }
-        }
-        true
-    }
-
-    fn is_exit(&self, u: usize) -> bool
-        requires { u < length self.now.actors.now }
-        ensures { result ≡ end_group Exit (length self.now.actors.now) self.now.delays.now u }
-    {
-        for w in 0..self.actors.len() {
-            if !self.is_answered(u, w) {
-                return false;
-            }
-        }
-        true
     }
 
     // Whether u is the lowest actor of its group.
     pub(crate) fn opens_group(&self, u: usize) -> bool
         requires { u < length self.now.actors.now }
-        ensures { result ≡ opens_group (length self.now.actors.now) self.now.delays.now u }
+        ensures { let g = seen self.now in result ≡ opens_group (count g) g.delays u }
     {
-        for w in 0..u {
-            if self.same_group(u, w) {
-                return false;
-            }
-        }
-        true
+        !(0..u).any(|w| self.same_group(u, w))
     }
 
     // Whether u is the lowest actor of its part.
     pub(crate) fn opens_part(&self, u: usize) -> bool
         requires { u < length self.now.actors.now }
-        ensures { result ≡ opens_part (length self.now.actors.now) self.now.joined.now u }
+        ensures { let g = seen self.now in result ≡ opens_part (count g) g.joined u }
     {
-        for w in 0..u {
-            if self.same_part(u, w) {
-                return false;
-            }
-        }
-        true
+        !(0..u).any(|w| self.same_part(u, w))
     }
 
     // Whether v, if it shares the part of u, shares its group too.
     fn is_grouped_if_joined(&self, u: usize, v: usize) -> bool
         requires { (u < length self.now.actors.now) × (v < length self.now.actors.now) }
-        ensures { result ≡ grouped_if_joined (length self.now.actors.now) self.now.delays.now self.now.joined.now u v }
+        ensures { let g = seen self.now in result ≡ grouped_if_joined (count g) g.delays g.joined u v }
     {
         !self.same_part(u, v) || self.same_group(u, v)
     }
@@ -114,20 +80,15 @@ impl Ground<'_, '_, '_> {
     // Whether the part of u is one group.
     pub(crate) fn is_one_group(&self, u: usize) -> bool
         requires { u < length self.now.actors.now }
-        ensures { result ≡ one_group (length self.now.actors.now) self.now.delays.now self.now.joined.now u }
+        ensures { let g = seen self.now in result ≡ one_group (count g) g.delays g.joined u }
     {
-        for w in 0..self.actors.len() {
-            if !self.is_grouped_if_joined(u, w) {
-                return false;
-            }
-        }
-        true
+        (0..self.actors.len()).all(|w| self.is_grouped_if_joined(u, w))
     }
 
     // Whether w belongs to the group of u and has a smaller estimate than `best`.
     fn stands_better(&self, u: usize, w: usize, best: usize) -> bool
         requires { (u < length self.now.actors.now) × (w < length self.now.actors.now) × (best < length self.now.actors.now) }
-        ensures { result ≡ stands_better self.now.actors.now (length self.now.actors.now) self.now.delays.now u w best }
+        ensures { let g = seen self.now in result ≡ stands_better g.actors (count g) g.delays u w best }
     {
         self.same_group(u, w) && self.actors[w].estimate < self.actors[best].estimate
     }
@@ -135,9 +96,10 @@ impl Ground<'_, '_, '_> {
     // The actor of least estimate in the group whose lowest actor is u; the lowest on a tie.
     pub(crate) fn stand_in(&self, u: usize) -> usize
         requires { u < length self.now.actors.now }
-        ensures value { result ≡ stand_in self.now.actors.now (length self.now.actors.now) self.now.delays.now u }
+        ensures value { let g = seen self.now in result ≡ stand_in g.actors (count g) g.delays u }
         ensures within { result < length self.now.actors.now }
     {
+        // Tried as a fold: that the closure may be called with each `best` was not proved.
         let mut best = u;
         for w in 0..self.actors.len() {
             if self.stands_better(u, w, best) {

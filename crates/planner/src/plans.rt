@@ -12,14 +12,15 @@ ghost use Rattle.meaning.specs.Promises.{Promise};
 ghost use Rattle.planner.specs.Slips.{slip_of, slip_answer, slip_values};
 ghost use Rattle.planner.specs.Steps.{ground_of, with_backs, delays_over, finished};
 ghost use Rattle.planner.specs.Within.{EndsBelow, Sound};
+ghost use Rattle.planner.specs.Pairs.{pair_count};
 
-use crate::checks::BACKS;
 use crate::costs::{cost_after, cost_before};
+use crate::graph::Graph;
 use crate::ground::Ground;
 use crate::marks::mark_links;
+use crate::pairs::Pairs;
 use crate::sizes::size_links;
 use crate::surveys::survey;
-use crate::tables::fill;
 use paths::{Delay, Reach};
 use planning::Sight;
 use records::{Actor, Fault, Link};
@@ -80,59 +81,66 @@ impl Slip {
 }
 
 // Finds the parts, tells the cost before, and appends the back links; answers where they end, and that cost.
-fn add_back_links(
-    actors: &[Actor],
+// Actors and delays have one lifetime, since the ground holds them.
+fn add_back_links<'d>(
+    actors: &'d [Actor],
     links: &mut [Link],
     given: usize,
     lead: u32,
-    delays: &[Delay],
+    delays: &'d [Delay],
     reach: &mut [Reach],
 ) -> (usize, u32)
-    requires few { length actors.now ≤ 64 }
-    requires given { (given ≤ 256) × (given + 15 ≤ length links.old) }
-    requires delays { length delays.now ≡ length actors.now * length actors.now }
-    requires reach { length actors.now * length actors.now ≤ length reach.old }
-    requires ends { EndsBelow (length actors.now) (take given links.old) }
+    requires { Sound (length actors.now) links.old given (length delays.now) (length reach.old) }
     ensures links { links.new ≡ with_backs links.old given (backs (ground_of actors.now delays.now (take given links.old)) lead) }
     ensures reach { reach.new ≡ over (parts (length actors.now) (orders actors.now ++ map link_edge (take given links.old))) reach.old }
     ensures end { result.0 ≡ given + length (backs (ground_of actors.now delays.now (take given links.old)) lead) }
     ensures cost { result.1 ≡ cost_before actors.now (length actors.now) delays.now (take given links.old) }
     ensures within { result.0 ≤ given + 15 }
-    ensures ends { EndsBelow (length actors.now) (take result.0 links.new) }
 {
     let n = actors.len();
-    fill(reach, Sight::Loose, actors, &links[0..given]);
+    let graph = Graph {
+        actors,
+        links: &links[..given],
+    };
+    graph.fill(reach, Sight::Loose);
+    let delays = Pairs { cells: delays, n };
+    let joined = Pairs {
+        cells: &reach[..n * n],
+        n,
+    };
     let ground = Ground {
         actors,
         delays,
-        joined: &reach[0..n * n],
+        joined,
     };
-    let cost = cost_before(&ground, &links[0..given]);
-    let end = ground.add_backs(lead, links, given, given + BACKS);
+    let cost = cost_before(&ground, &links[..given]);
+    let found = ground.back_links(lead);
+    let back = found.as_slice();
+    let end = given + back.len();
+    links[given..end].copy_from_slice(back);
     (end, cost)
 }
 
-// Marks and sizes the first `all` links, of which the first `given` are given; answers the cost after.
-fn mark_and_size(
-    actors: &[Actor],
-    links: &mut [Link],
-    given: usize,
-    all: usize,
-    delays: &mut [Delay],
-) -> u32
+// Marks and sizes the links, of which the first `given` are given; answers the cost after.
+fn mark_and_size(actors: &[Actor], links: &mut [Link], given: usize, delays: &mut [Delay]) -> u32
     requires few { length actors.now ≤ 64 }
-    requires counts { (given ≤ all) × ((all ≤ 271) × (all ≤ length links.old)) }
-    requires room { length actors.now * length actors.now ≤ length delays.old }
-    requires ends { EndsBelow (length actors.now) (take all links.old) }
-    ensures links { links.new ≡ finished actors.now given (take all links.old) ++ drop all links.old }
-    ensures delays { delays.new ≡ over (delays_over actors.now (take all links.old)) delays.old }
-    ensures cost { result ≡ cost_after (finished actors.now given (take all links.old)) }
+    requires counts { (given ≤ length links.old) × (length links.old ≤ 271) }
+    requires room { pair_count actors.now ≤ length delays.old }
+    requires ends { EndsBelow (length actors.now) links.old }
+    ensures links { links.new ≡ finished actors.now given links.old }
+    ensures delays { delays.new ≡ over (delays_over actors.now links.old) delays.old }
+    ensures cost { result ≡ cost_after (finished actors.now given links.old) }
 {
     let n = actors.len();
-    mark_links(actors, links, given, all, delays);
-    fill(delays, Sight::Directed, actors, &links[0..all]);
-    size_links(links, all, n, &delays[0..n * n]);
-    cost_after(&links[0..all])
+    mark_links(actors, links, given, delays);
+    let graph = Graph { actors, links };
+    graph.fill(delays, Sight::Directed);
+    let least = Pairs {
+        cells: &delays[..n * n],
+        n,
+    };
+    size_links(links, &least);
+    cost_after(links)
 }
 
 // Plans a drawing that passed the survey.
@@ -145,7 +153,7 @@ fn plan_live(
     reach: &mut [Reach],
 ) -> Slip
     requires sound { Sound (length actors.now) links.old given (length delays.old) (length reach.old) }
-    requires surveyed { take (length actors.now * length actors.now) delays.old ≡ base_delays (drawing actors.now links.old given lead delays.old reach.old) }
+    requires surveyed { take (pair_count actors.now) delays.old ≡ base_delays (drawing actors.now links.old given lead delays.old reach.old) }
     ensures slip { result ≡ slip_of (plan_totals (drawing actors.now links.old given lead delays.old reach.old)) }
     ensures links { links.new ≡ (accepted (drawing actors.now links.old given lead delays.old reach.old)).links }
     ensures delays { delays.new ≡ (accepted (drawing actors.now links.old given lead delays.old reach.old)).delays }
@@ -153,8 +161,8 @@ fn plan_live(
     ensures reach { reach.new ≡ (accepted (drawing actors.now links.old given lead delays.old reach.old)).reach }
 {
     let n = actors.len();
-    let (all, before) = add_back_links(actors, links, given, lead, &delays[0..n * n], reach);
-    let after = mark_and_size(actors, links, given, all, delays);
+    let (all, before) = add_back_links(actors, links, given, lead, &delays[..n * n], reach);
+    let after = mark_and_size(actors, &mut links[..all], given, delays);
     Slip {
         actors: n,
         given,
@@ -170,6 +178,8 @@ fn plan_live(
 /// reached by delay-free edges. On success each given link has its mark and size, the back links stand after the given
 /// ones, the first n × n entries of `delays` hold the least delays with back links, row by sender, and those of `reach`
 /// tell who shares a part. All else stands. What the plan means for the unit is `Promise`.
+// The tables are lent one by one: from a struct of `&mut`s that is passed by value each `x.new` of the contract would be
+// a part of its exit.
 pub fn plan(
     actors: &[Actor],
     links: &mut [Link],

@@ -1,37 +1,30 @@
 // How many cells each buffer has.
-ghost use Rattle.std.specs.Prelude.{◌≡◌, ◌*◌, ◌<◌, ◌≤◌, ◌++◌, length, take, drop};
+ghost use Rattle.std.specs.Prelude.{◌≡◌, ◌<◌, ◌≤◌, ◌++◌, length, take, drop};
 ghost use Rattle.planning.specs.Marks.{size_of, sized};
 ghost use Rattle.planner.specs.Within.{EndsBelow};
 
-use crate::marks::LOCAL;
-use crate::tables::place;
+use crate::pairs::Pairs;
 use paths::{Algebra, Delay};
-use records::Link;
+use records::{Link, Mark};
 
 // The delay and the least delay back, or 0 for a local link.
-fn size_of(link: Link, n: usize, delays: &[Delay]) -> u32
-    requires few { n ≤ 64 }
-    requires room { n * n ≤ length delays.now }
-    requires ends { (link.sender < n) × (link.receiver < n) }
-    ensures { result ≡ size_of n delays.now link }
+fn size_of(link: Link, delays: &Pairs<Delay>) -> u32
+    requires { (link.sender < delays.now.n) × (link.receiver < delays.now.n) }
+    ensures { result ≡ size_of delays.now.n delays.now.cells.now link }
 {
-    if link.mark == LOCAL {
+    if link.has_mark(Mark::Local) {
         return 0;
     }
-    let at = place(n, link.receiver as usize, link.sender as usize);
-    Delay::edge(link.delay).follow(delays[at]).value
+    let back = delays.at(link.receiver as usize, link.sender as usize);
+    Delay::edge(link.delay).follow(back).value
 }
 
-// Writes the sizes of the first `all` links, which are marked.
-pub(crate) fn size_links(links: &mut [Link], all: usize, n: usize, delays: &[Delay])
-    requires few { n ≤ 64 }
-    requires room { n * n ≤ length delays.now }
-    requires count { all ≤ length links.old }
-    requires ends { EndsBelow n (take all links.old) }
-    ensures { links.new ≡ sized n delays.now (take all links.old) ++ drop all links.old }
+// Writes the sizes of the links, which are marked.
+pub(crate) fn size_links(links: &mut [Link], delays: &Pairs<Delay>)
+    requires { EndsBelow delays.now.n links.old }
+    ensures { links.new ≡ sized delays.now.n delays.now.cells.now links.old }
 {
-    for i in 0..all {
-        let size = size_of(links[i], n, delays);
-        links[i].size = size;
+    for link in links {
+        link.size = size_of(*link, delays);
     }
 }

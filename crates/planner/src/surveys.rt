@@ -5,7 +5,8 @@ ghost use Rattle.planning.specs.Planning.{drawing, surveyed};
 ghost use Rattle.planner.specs.Within.{Sound};
 
 use crate::checks::{check_cycles, check_tables};
-use crate::tables::fill;
+use crate::graph::Graph;
+use crate::pairs::Pairs;
 use paths::{Delay, Reach};
 use planning::Sight;
 use records::{Actor, Fault, Link};
@@ -14,9 +15,10 @@ use records::{Actor, Fault, Link};
 // which change nothing), and that no cycle has total delay 0 (refusal 11). Then the first n × n entries of `reach`
 // tell who is reached by delay-free edges, also after refusal 11, and those of `delays` hold the least delays, row by
 // sender. Later entries stand.
-pub(crate) fn survey(
-    actors: &[Actor],
-    links: &[Link],
+// Both tables have one lifetime, since the graph holds them.
+pub(crate) fn survey<'d>(
+    actors: &'d [Actor],
+    links: &'d [Link],
     given: usize,
     lead: u32,
     delays: &mut [Delay],
@@ -29,9 +31,17 @@ pub(crate) fn survey(
     ensures sound { OnOk result (Sound (length actors.now) links.now given (length delays.old) (length reach.old)) }
 {
     check_tables(actors, links, given, lead, delays.len(), reach.len())?;
+    let graph = Graph {
+        actors,
+        links: &links[..given],
+    };
+    graph.fill(reach, Sight::Directed);
     let n = actors.len();
-    fill(reach, Sight::Directed, actors, &links[0..given]);
-    check_cycles(&reach[0..n * n], n)?;
-    fill(delays, Sight::Directed, actors, &links[0..given]);
+    let free = Pairs {
+        cells: &reach[..n * n],
+        n,
+    };
+    check_cycles(&free)?;
+    graph.fill(delays, Sight::Directed);
     Ok(())
 }

@@ -23,6 +23,15 @@ pub enum Mark {
     Back = 3,
 }
 
+impl Mark {
+    /// The number that stands for the mark in a table.
+    pub fn number(self) -> u8
+        ensures { result ≡ mark_number self }
+    {
+        self as u8
+    }
+}
+
 /// An edge between two actors, with what planning found for it.
 #[derive(Clone, Copy, PartialEq, Eq, Debug, Default)]
 pub struct Link {
@@ -41,7 +50,7 @@ impl Link {
     pub fn has_mark(&self, mark: Mark) -> bool
         ensures { result ≡ (self.now.mark == mark_number mark) }
     {
-        self.mark == mark as u8
+        self.mark == mark.number()
     }
 }
 

@@ -1,16 +1,12 @@
-use Rattle.std.proofs.Common.{arith}
-use Rattle.std.proofs.lemmas.List.{at_drop_more, at_drop_all}
-use Rattle.records.specs.Tables.{no_link}
-use Rattle.planning.specs.Costs.{cost_after}
+use Rattle.std.proofs.Common.{◌≡◌, rules, sym, refl, ◌∙◌}
+use Rattle.std.proofs.iter.runs.Made.{chains}
+use Rattle.std.specs.List.{sum_by}
+use Rattle.std.proofs.lemmas.List.Recursion.{is_sum_by}
+use Rattle.planning.specs.Costs.{cost_after, link_cost_after}
 use Rattle.planner.proofs.costs.cost_after.Goals as goal
-
-pub loop-i-preserved : goal.loop-i-preserved
-loop-i-preserved c =
-    let next = at_drop_more (cost_after) c.args.links.now c.loop-i.i no_link c.loop-i-test.true in
-    let call = c.link_cost_after-cost.ensures in
-    (omega (arith, next, call.value, c.loop-i.invariant.0), omega (arith, call.bound, c.loop-i.invariant.1))
 
 pub returns : goal.returns
 returns c =
-    let none = at_drop_all (cost_after) c.args.links.now c.loop-i.i c.loop-i-test.false in
-    omega (arith, none, c.loop-i.invariant.0)
+    let links = c.args.links.now in
+    let e : c.sum.result ≡ sum_by link_cost_after links = search (rules, chains) in
+    e ∙ sym (is_sum_by cost_after link_cost_after refl (λ l ls. refl) links)

@@ -1,16 +1,30 @@
-use Rattle.std.proofs.Common.{length, arith}
-use Rattle.std.proofs.lemmas.List.{at_drop_more, at_drop_all}
+use Rattle.std.proofs.Common.{◌≡◌, ◌<◌, length, rules, sym, refl, ◌∙◌, subst}
+use borrow.Author.Tests.{tests}
+use Rattle.std.proofs.iter.runs.Made.{chains}
+use Rattle.std.specs.List.{sum_by}
+use Rattle.std.proofs.lemmas.Iterator.{YieldsList-from_slice}
+use Rattle.std.proofs.lemmas.Iterator.Adapters.{serves_from_places}
+use Rattle.std.proofs.lemmas.List.{get_or_default}
+use Rattle.std.proofs.lemmas.List.Recursion.{is_sum_by}
+use Rattle.records.specs.declared.tables.Link.{Link}
 use Rattle.records.specs.Tables.{no_link}
-use Rattle.planning.specs.Costs.{cost_before}
+use Rattle.planning.specs.Costs.{cost_before, link_cost_before}
 use Rattle.planner.proofs.costs.cost_before.Goals as goal
 
-pub loop-i-preserved : goal.loop-i-preserved
-loop-i-preserved c =
-    let next = at_drop_more (cost_before c.args.basis.now.actors.now (length c.args.basis.now.actors.now) c.args.basis.now.delays.now) c.args.links.now c.loop-i.i no_link c.loop-i-test.true in
-    let call = c.link_cost_before-cost.ensures in
-    (omega (arith, next, call.value, c.loop-i.invariant.0), omega (arith, call.bound, c.loop-i.invariant.1))
+pub sum-requires-clause-can : goal.sum-requires-clause-can
+sum-requires-clause-can c =
+    let n = length c.args.basis.now.actors.now in
+    let links = c.args.links.now in (
+      tt,
+      serves_from_places (YieldsList-from_slice links cc) (λ x q k. search (rules, tests)) (λ x k h e.
+          let both : (x.now.sender < n) × (x.now.receiver < n) =
+          subst (λ (l : Link). (l.sender < n) × (l.receiver < n)) (sym (e ∙ get_or_default links k x.now no_link h)) (c.requires.ends k h) in
+          search rules),
+    )
 
 pub returns : goal.returns
 returns c =
-    let none = at_drop_all (cost_before c.args.basis.now.actors.now (length c.args.basis.now.actors.now) c.args.basis.now.delays.now) c.args.links.now c.loop-i.i c.loop-i-test.false in
-    omega (arith, none, c.loop-i.invariant.0)
+    let links = c.args.links.now in
+    let cost = link_cost_before c.args.basis.now.actors.now (length c.args.basis.now.actors.now) c.args.basis.now.delays.cells.now in
+    let e : c.sum.result ≡ sum_by cost links = search (rules, chains) in
+    e ∙ sym (is_sum_by (cost_before c.args.basis.now.actors.now (length c.args.basis.now.actors.now) c.args.basis.now.delays.cells.now) cost refl (λ l ls. refl) links)

@@ -1,22 +1,8 @@
-use Rattle.std.proofs.Common.{◌≡◌, ◌+◌, ◌-◌, sym, ◌∙◌, arith, eq-eqb, ne_eqb}
-use Rattle.std.proofs.lemmas.Bool.{cond-true, cond-false}
-use Rattle.planner.proofs.Orders.{last_on_more}
+use Rattle.std.proofs.Common.{rules}
+use Rattle.std.proofs.iter.runs.Made.{chains}
+use Rattle.planner.proofs.Orders.{last_found}
 use Rattle.planner.proofs.edges.last_on.Goals as goal
 
-pub returns-then-actors-u : goal.returns-then-actors-u
-returns-then-actors-u c =
-    let e : c.loop-u.u ≡ c.loop-u.u - 1 + 1 = omega arith in
-    record {
-      value =
-          sym (last_on_more c.args.actors.now c.args.processor c.loop-u.u (c.loop-u.u - 1) e
-          ∙ cond-true _ _ _ (eq-eqb _ _ c.if-actors-u.true))
-          ∙ c.loop-u.invariant;
-      within = omega arith;
-    }
-
-pub loop-u-preserved : goal.loop-u-preserved
-loop-u-preserved c =
-    let e : c.loop-u.u ≡ c.loop-u.u - 1 + 1 = omega arith in
-    sym (last_on_more c.args.actors.now c.args.processor c.loop-u.u (c.loop-u.u - 1) e
-    ∙ cond-false _ _ _ (ne_eqb _ _ c.if-actors-u.false))
-    ∙ c.loop-u.invariant
+pub returns-clause-value : goal.returns-clause-value
+returns-clause-value c =
+    last_found c.args.actors.now c.args.processor c.args.below c.rposition.result (λ e k h. search (rules, chains)) (λ i e. search (rules, chains))

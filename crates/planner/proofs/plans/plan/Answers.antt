@@ -1,4 +1,4 @@
-use Rattle.std.proofs.Common.{◌+◌, ◌*◌, ◌≤◌, length, take, IfOk, Ok, Err, sym, ap, ◌∙◌, subst, arith}
+use Rattle.std.proofs.Common.{◌+◌, ◌*◌, ◌≤◌, length, take, IfOk, Ok, Err, sym, ap, ◌∙◌, subst}
 use Rattle.std.proofs.lemmas.List.{take_at}
 use Rattle.std.proofs.lemmas.Result.{err_from_is_err_and}
 use Rattle.records.specs.Faults.{told}
@@ -28,24 +28,13 @@ returns-in_err-survey c =
       promise = promise d;
     }
 
-pub plan_live-requires : goal.plan_live-requires
-plan_live-requires c =
+pub plan_live-requires-clause-surveyed : goal.plan_live-requires-clause-surveyed
+plan_live-requires-clause-surveyed c =
     let n = length c.args.actors.now in
     let d = drawing c.args.actors.now c.args.links.now c.args.given c.args.lead c.args.delays.now c.args.reach.now in
     let on = planned_live d c.in_ok-survey.ensures.answer in
-    let sound = c.in_ok-survey.ensures.sound in
-    let delays = c.survey.ensures.delays ∙ ap (λ o. o.delays) on.0 in
-    record {
-      sound = record {
-        few = sound.few;
-        given_few = sound.given_few;
-        links_room = sound.links_room;
-        delays_room = omega (arith, sound.delays_room);
-        reach_room = omega (arith, sound.reach_room);
-        ends = sound.ends;
-      };
-      surveyed = ap (take (n * n)) delays ∙ take_at (base_delays d) _ (n * n) (length_paths_over delay_ops n Directed (base_edges d));
-    }
+    ap (take (n * n)) (c.survey.ensures.delays ∙ ap (λ o. o.delays) on.0)
+    ∙ take_at (base_delays d) _ (n * n) (length_paths_over delay_ops n Directed (base_edges d))
 
 pub returns : goal.returns
 returns c =

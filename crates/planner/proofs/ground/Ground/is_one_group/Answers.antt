@@ -1,17 +1,12 @@
-use Rattle.std.proofs.Common.{◌≡◌, length, sym, ◌∙◌, arith}
+use Rattle.std.proofs.Common.{length, rules}
+use borrow.Author.Tests.{tests}
 use Rattle.planning.specs.Groups.{grouped_if_joined, one_group}
-use Rattle.planner.proofs.Below.{all_more, all_fails}
+use Rattle.planner.proofs.Below.{all_below_ran}
 use Rattle.planner.proofs.ground.Ground.is_one_group.Goals as goal
-
-pub returns-then-not-is_grouped_if_joined : goal.returns-then-not-is_grouped_if_joined
-unfolding one_group
-returns-then-not-is_grouped_if_joined c = sym (all_fails (λ k. grouped_if_joined (length c.args.self.now.actors.now) c.args.self.now.delays.now c.args.self.now.joined.now c.args.u k) (length c.args.self.now.actors.now) c.loop-w.w c.loop-w-test.true (sym c.is_grouped_if_joined.ensures ∙ c.if-not-is_grouped_if_joined.true))
-
-pub loop-w-preserved : goal.loop-w-preserved
-loop-w-preserved c = all_more (λ k. grouped_if_joined (length c.args.self.now.actors.now) c.args.self.now.delays.now c.args.self.now.joined.now c.args.u k) c.loop-w.w (sym c.is_grouped_if_joined.ensures ∙ c.if-not-is_grouped_if_joined.false) c.loop-w.invariant
 
 pub returns : goal.returns
 unfolding one_group
 returns c =
-    let e : c.loop-w.w ≡ length c.args.self.now.actors.now = omega arith in
-    sym (rw e at c.loop-w.invariant)
+    let n = length c.args.self.now.actors.now in
+    let test = grouped_if_joined n c.args.self.now.delays.cells.now c.args.self.now.joined.cells.now c.args.u in
+    all_below_ran test n _ _ c.all.result c.all.ensures.ran (λ x b q k. search (rules, tests))

@@ -4,5 +4,5 @@ use Rattle.planner.proofs.ground.Ground.stand_in.Given as goal
 
 abbrev pub invariant-loop-w : goal.invariant-loop-w
 invariant-loop-w l =
-    (l.best ≡ stand_below l.self.actors.now (length l.self.actors.now) l.self.delays.now l.u l.w)
+    (l.best ≡ stand_below l.self.actors.now (length l.self.actors.now) l.self.delays.cells.now l.u l.w)
     × (l.best < length l.self.actors.now)

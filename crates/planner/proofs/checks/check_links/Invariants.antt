@@ -1,9 +1,0 @@
-use Rattle.std.proofs.Common.{◌≡◌, drop}
-use Rattle.records.specs.declared.fault.Layer.TheVariants.{Table}
-use Rattle.records.specs.declared.refusal.Refusal.TheVariants as refusal
-use Rattle.planning.specs.Checks.{refuse_first, bad_link}
-use Rattle.planner.proofs.checks.check_links.Given as goal
-
-abbrev pub invariant-loop-i : goal.invariant-loop-i
-invariant-loop-i l =
-    refuse_first (bad_link l.n) refusal.BadLink Table l.i (drop l.i l.links) ≡ refuse_first (bad_link l.n) refusal.BadLink Table 0 l.links
