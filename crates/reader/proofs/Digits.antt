@@ -1,30 +1,30 @@
 -- One more digit of a number.
-use Rattle.std.proofs.Common.{◌≡◌, ℕ, ◌+◌, ◌-◌, ◌*◌, ◌^◌, ◌<◌, ◌≤◌, Bool, true, false, cond, ◌⊎◌, List, length, get_or, drop, Ok, Err, ap, ◌∙◌, ⊎_elim, pow-suc, add-one, arith}
+use Rattle.std.proofs.Common.{◌≡◌, ℕ, ◌+◌, ◌-◌, ◌*◌, ◌^◌, ◌<◌, ◌≤◌, true, false, List, length, get_or, drop, Some, None, sym, ap, ◌∙◌, pow-suc, add-one, arith}
 use native.Mathlib.Nat.{pow-le-pow_right}
+use Rattle.std.specs.Char.{is_ascii_digit}
 use Rattle.std.proofs.lemmas.List.{at_drop_more, at_drop_all}
+use Rattle.std.proofs.lemmas.Bool.{cond-true, cond-false}
 use Rattle.std.proofs.lemmas.Bool.Decides.{nat_tests}
-use Rattle.reader.specs.Numbers.{digits_from, is_digit, no_number}
+use Rattle.reader.specs.Numbers.{digits_from}
 
-pub digit_step : (line n : ℕ) (xs : List ℕ) (i : ℕ) → i < length xs → 48 ≤ get_or xs i 0 → get_or xs i 0 ≤ 57
-    → digits_from line n (drop i xs) ≡ digits_from line (n * 10 + (get_or xs i 0 - 48)) (drop (i + 1) xs)
-digit_step line n xs i h lo hi =
-    let e : is_digit (get_or xs i 0) ≡ true = grind (arith, nat_tests) in
-    at_drop_more (digits_from line n) xs i 0 h
-    ∙ ap (λ (t : Bool). cond t (digits_from line (n * 10 + (get_or xs i 0 - 48)) (drop (i + 1) xs)) (Err (no_number line))) e
+pub digit_step : (n d : ℕ) (xs : List ℕ) (i : ℕ) → i < length xs → d ≡ get_or xs i 0 - 48 → is_ascii_digit (get_or xs i 0) ≡ true
+    → digits_from n (drop i xs) ≡ digits_from (n * 10 + d) (drop (i + 1) xs)
+digit_step n d xs i h q e =
+    at_drop_more (digits_from n) xs i 0 h ∙ cond-true _ _ _ e ∙ ap (λ (k : ℕ). digits_from (n * 10 + k) (drop (i + 1) xs)) (sym q)
 
-pub digit_stop : (line n : ℕ) (xs : List ℕ) (i : ℕ) → i < length xs → (get_or xs i 0 < 48) ⊎ (57 < get_or xs i 0)
-    → digits_from line n (drop i xs) ≡ Err (no_number line)
-digit_stop line n xs i h out =
-    let e : is_digit (get_or xs i 0) ≡ false
-    = ⊎_elim (λ (l : get_or xs i 0 < 48). grind (arith, nat_tests)) (λ (l : 57 < get_or xs i 0). grind (arith, nat_tests)) out in
-    at_drop_more (digits_from line n) xs i 0 h
-    ∙ ap (λ (t : Bool). cond t (digits_from line (n * 10 + (get_or xs i 0 - 48)) (drop (i + 1) xs)) (Err (no_number line))) e
+pub digit_stop : (n : ℕ) (xs : List ℕ) (i : ℕ) → i < length xs → is_ascii_digit (get_or xs i 0) ≡ false
+    → digits_from n (drop i xs) ≡ None
+digit_stop n xs i h e = at_drop_more (digits_from n) xs i 0 h ∙ cond-false _ _ _ e
 
-pub digit_end : (line n : ℕ) (xs : List ℕ) (i : ℕ) → length xs ≤ i → digits_from line n (drop i xs) ≡ Ok n
-digit_end line n xs i h = at_drop_all (digits_from line n) xs i h
+pub digit_end : (n : ℕ) (xs : List ℕ) (i : ℕ) → length xs ≤ i → digits_from n (drop i xs) ≡ Some n
+digit_end n xs i h = at_drop_all (digits_from n) xs i h
 
-pub tens_more : (n d i : ℕ) → n < 10 ^ i → d < 10 → n * 10 + d < 10 ^ (i + 1)
-tens_more n d i p q = rw add-one (omega (arith, pow-suc 10 i))
+digit_below : (b : ℕ) → is_ascii_digit b ≡ true → b - 48 < 10
+digit_below b e = grind (arith, nat_tests)
 
-pub tens_most : (n i : ℕ) → n < 10 ^ i → i < 7 → n < 1000000
-tens_most n i p q = omega (arith, pow-le-pow_right {n = 10} (omega arith) {i = i} {j = 6} (omega arith))
+pub tens_more : (n d b i : ℕ) → n < 10 ^ i → d ≡ b - 48 → is_ascii_digit b ≡ true → n * 10 + d < 10 ^ (i + 1)
+tens_more n d b i p q e = rw add-one (omega (arith, pow-suc 10 i, digit_below b e))
+
+pub tens_fit : (n d b i : ℕ) → n < 10 ^ i → d ≡ b - 48 → is_ascii_digit b ≡ true → i < 7 → n * 10 + d < 10000000
+tens_fit n d b i p q e h =
+    omega (arith, tens_more n d b i p q e, pow-le-pow_right {n = 10} (omega arith) {i = i + 1} {j = 7} (omega arith))

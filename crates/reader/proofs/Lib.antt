@@ -1,6 +1,6 @@
 -- Lemmas that several proofs share, or that are inductions.
 pub mod Digits
 pub mod Filling
-pub mod Lines
+pub mod Cuts
 pub mod Passes
 pub mod Words

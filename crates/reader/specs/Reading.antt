@@ -10,8 +10,10 @@ use Rattle.reader.specs.Lines.{cut}
 use Rattle.reader.specs.Words.{Parsed, lead, actor, link, line_of, over}
 use Rattle.reader.specs.Numbers.{number_of}
 use Rattle.reader.specs.declared.Counts.{Counts}
-use Rattle.reader.specs.declared.check.Check.{Check}
-use Rattle.reader.specs.declared.check.Check.TheVariants.{Shape, Numbers, Order, Room}
+use Rattle.reader.specs.declared.check.Shape.{Shape}
+use Rattle.reader.specs.declared.check.Numbers.{Numbers}
+use Rattle.reader.specs.declared.check.Order.{Order}
+use Rattle.reader.specs.declared.check.Room.{Room}
 use Rattle.reader.specs.declared.line.Entry.{Entry}
 use Rattle.reader.specs.declared.line.Entry.TheVariants as entry
 
@@ -29,24 +31,37 @@ entry_of (actor a b) =
 entry_of (link a b c) =
     then (number_of a) (λ s. then (number_of b) (λ r. then (number_of c) (λ d. Ok (entry.Link (link_record s r d)))))
 
+-- shape: each line is made as its letter asks
+abbrev pub shape : Shape
+shape = record {}
+
+abbrev pub shape_step : ℕ → Parsed → Shape → Result Shape Fault
+shape_step n p check = Ok check
+
+-- numbers: each word is one
+abbrev pub numbers : Numbers
+numbers = record {}
+
+abbrev pub numbers_step : ℕ → Parsed → Numbers → Result Numbers Fault
+numbers_step n p check = then (entry_of p) (λ _. Ok check)
+
 -- order: a lead stands first, and no actor after a link
-abbrev pub order_step : ℕ → Bool → Parsed → Result Check Fault
-order_step n linked (lead a) = cond (n == 1) (Ok (Order linked)) (Err (fault refusal.OutOfOrder Text n))
-order_step n linked (actor a b) = cond linked (Err (fault refusal.OutOfOrder Text n)) (Ok (Order linked))
-order_step n linked (link a b c) = Ok (Order true)
+abbrev pub linked_so : Bool → Order
+linked_so linked = record { linked = linked }
+
+abbrev pub order_step : ℕ → Parsed → Order → Result Order Fault
+order_step n (lead a) check = cond (n == 1) (Ok check) (Err (fault refusal.OutOfOrder Text n))
+order_step n (actor a b) check = cond check.linked (Err (fault refusal.OutOfOrder Text n)) (Ok check)
+order_step n (link a b c) check = Ok (linked_so true)
 
 -- room: so many actors and links may still come
-abbrev pub room_step : ℕ → ℕ → ℕ → Parsed → Result Check Fault
-room_step n actors links (lead a) = Ok (Room actors links)
-room_step n actors links (actor a b) = cond (nat_lt 0 actors) (Ok (Room (actors - 1) links)) (Err (fault refusal.NoRoom Text n))
-room_step n actors links (link a b c) = cond (nat_lt 0 links) (Ok (Room actors (links - 1))) (Err (fault refusal.NoRoom Text n))
+abbrev pub room_for : ℕ → ℕ → Room
+room_for actors links = record { actors = actors; links = links }
 
--- a check at the line n, and what it goes on with
-unfoldable pub check_step : ℕ → Parsed → Check → Result Check Fault
-check_step n p Shape = Ok Shape
-check_step n p Numbers = then (entry_of p) (λ _. Ok Numbers)
-check_step n p (Order linked) = order_step n linked p
-check_step n p (Room actors links) = room_step n actors links p
+abbrev pub room_step : ℕ → Parsed → Room → Result Room Fault
+room_step n (lead a) check = Ok check
+room_step n (actor a b) check = cond (nat_lt 0 check.actors) (Ok (room_for (check.actors - 1) check.links)) (Err (fault refusal.NoRoom Text n))
+room_step n (link a b c) check = cond (nat_lt 0 check.links) (Ok (room_for check.actors (check.links - 1))) (Err (fault refusal.NoRoom Text n))
 
 -- a step at each line, from the line n on
 abbrev pub over_lines : {S : Type 0} → (ℕ → Parsed → S → Result S Fault) → ℕ → S → List (List ℕ) → Result S Fault
@@ -54,8 +69,8 @@ over_lines f n s [] = Ok s
 over_lines f n s (l ∷ ls) = then (line_of n l) (λ p. then (f n p s) (λ t. over_lines f (n + 1) t ls))
 
 -- one check over a whole text
-abbrev pub passed : Check → List ℕ → Result Check Fault
-passed check text = over_lines check_step 1 check (cut text)
+abbrev pub passed : {S : Type 0} → (ℕ → Parsed → S → Result S Fault) → S → List ℕ → Result S Fault
+passed step check text = over_lines step 1 check (cut text)
 
 -- how many actors and links a table with so many records takes
 abbrev pub actor_room : ℕ → ℕ
@@ -65,8 +80,8 @@ abbrev pub link_room : ℕ → ℕ
 link_room n = min n 256
 
 -- the check of room over a whole text, for tables of so many records
-abbrev pub has_room : ℕ → ℕ → List ℕ → Result Check Fault
-has_room actors links text = passed (Room (actor_room actors) (link_room links)) text
+abbrev pub has_room : ℕ → ℕ → List ℕ → Result Room Fault
+has_room actors links text = passed room_step (room_for (actor_room actors) (link_room links)) text
 
 -- what a text says: its records and its lead
 pub record Drawing : Type 0 where
@@ -92,7 +107,7 @@ drawn text = over_lines add_step 1 (drawing [] [] 1) (cut text)
 unfoldable pub reading : List ℕ → ℕ → ℕ → Result Drawing Fault
 reading text actors links =
     cond (nat_lt 8192 (length text)) (Err (fault refusal.Misshaped Text 0))
-    (then (passed Shape text) (λ _. then (passed Numbers text) (λ _. then (passed (Order false) text)
+    (then (passed shape_step shape text) (λ _. then (passed numbers_step numbers text) (λ _. then (passed order_step (linked_so false) text)
     (λ _. then (has_room actors links text) (λ _. drawn text)))))
 
 abbrev pub counts_of : Drawing → Counts

@@ -1,15 +1,16 @@
 // The tables, filled from a text that was checked.
-ghost use Rattle.std.specs.Prelude.{◌≡◌, ◌≤◌, true, length, is_ok};
+ghost use Rattle.std.specs.Prelude.{◌≡◌, true, length, is_ok};
 ghost use Rattle.reader.specs.Words.{over};
 ghost use Rattle.reader.specs.Reading.{drawn, has_room, counts_of, actors_after, links_after};
 
 use crate::Counts;
-use crate::line::{Entry, Line, line_end};
+use crate::line::{Entry, Line};
+use crate::lines::Lines;
 use records::{Actor, Fault, Link};
 
 /// Writes the text's records to the fronts of the tables, and counts them.
+// The tables are memory of the caller, and nothing is allocated here: so a count says how far each is filled.
 pub(crate) fn fill(text: &[u8], actors: &mut [Actor], links: &mut [Link]) -> Result<Counts, Fault>
-    requires short { length text.now ≤ 8192 }
     requires read { is_ok (drawn text.now) ≡ true }
     requires room { is_ok (has_room (length actors.old) (length links.old) text.now) ≡ true }
     ensures answer { result ≡ over counts_of (drawn text.now) }
@@ -21,12 +22,8 @@ pub(crate) fn fill(text: &[u8], actors: &mut [Actor], links: &mut [Link]) -> Res
         links: 0,
         lead: 1,
     };
-    let mut at = 0;
-    let mut line = 1;
-    while at < text.len() {
-        let end = line_end(text, at);
-        let parsed = Line::parse(&text[at..end], line)?;
-        let entry = parsed.entry()?;
+    for (line, raw) in Lines::of(text) {
+        let entry = Line::parse(raw, line)?.entry()?;
         match entry {
             Entry::Lead(lead) => counts.lead = lead,
             Entry::Actor(actor) => {
@@ -38,8 +35,6 @@ pub(crate) fn fill(text: &[u8], actors: &mut [Actor], links: &mut [Link]) -> Res
                 counts.links += 1;
             }
         }
-        at = end;
-        line += 1;
     }
     Ok(counts)
 }

@@ -4,14 +4,18 @@
 mod check;
 mod fill;
 mod line;
+mod lines;
+mod number;
 mod word;
 
 ghost use Rattle.std.specs.Prelude.{◌≡◌, length};
 ghost use Rattle.records.specs.Faults.{told};
 ghost use Rattle.reader.specs.Reading.{count_values, reading_answer, reading_actors, reading_links};
 
-use check::{Check, pass};
+use check::{Numbers, Order, Room, Shape, pass};
 use fill::fill;
+pub use lines::Lines;
+pub use number::written_number;
 use records::{Actor, Fault, Layer, Link, Refusal};
 
 // The longest text that is read, in bytes.
@@ -45,6 +49,7 @@ pub struct Counts {
 ///
 /// The records stand at the fronts of the tables, links with mark 0 and size 0, and later records are left as they
 /// were. A refusal leaves both tables as they were.
+#[tactic(auto, unfolding(crate::specs::Reading::reading))]
 pub fn read(text: &[u8], actors: &mut [Actor], links: &mut [Link]) -> Result<Counts, Fault>
     ensures answer { result ≡ reading_answer text.now (length actors.old) (length links.old) }
     ensures view { told count_values result ≡ told count_values (reading_answer text.now (length actors.old) (length links.old)) }
@@ -54,10 +59,10 @@ pub fn read(text: &[u8], actors: &mut [Actor], links: &mut [Link]) -> Result<Cou
     if text.len() > MOST_BYTES {
         return Err(Fault::new(Refusal::Misshaped, Layer::Text, 0));
     }
-    pass(text, Check::Shape)?;
-    pass(text, Check::Numbers)?;
-    pass(text, Check::Order { linked: false })?;
-    let room = Check::Room {
+    pass(text, Shape)?;
+    pass(text, Numbers)?;
+    pass(text, Order { linked: false })?;
+    let room = Room {
         actors: actors.len().min(MOST_ACTORS),
         links: links.len().min(MOST_LINKS),
     };

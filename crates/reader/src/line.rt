@@ -1,10 +1,9 @@
 // Lines: each kind with its words, which stay parts of the text, and the record that a line writes.
-ghost use Rattle.std.specs.Prelude.{◌≡◌, ◌+◌, ◌<◌, ◌≤◌, length, drop};
-ghost use Rattle.reader.specs.Lines.{line_size};
-ghost use Rattle.reader.specs.Words.{split, over, held_line, lead_of, actor_of, link_of, line_of};
+ghost use Rattle.std.specs.Prelude.{◌≡◌};
+ghost use Rattle.reader.specs.Words.{over, held_line, words_left, made_of, line_of};
 ghost use Rattle.reader.specs.Reading.{entry_of};
 
-use crate::word::{Word, inner, last};
+use crate::word::{Word, Words};
 use records::{Actor, Fault, Layer, Link, Refusal};
 
 /// A line of the text, by its letter.
@@ -29,20 +28,14 @@ pub(crate) enum Entry {
 impl<'a> Line<'a> {
     /// The line that the bytes make, the line feed among them. It is refused if its letter is unknown, if the space
     /// after it or the line feed is missing, or if it has too few or too many words.
+    #[tactic(auto, unfolding(crate::specs::Words::line_of))]
     pub(crate) fn parse(raw: &'a [u8], line: usize) -> Result<Line<'a>, Fault>
         ensures { over held_line result ≡ line_of line raw.now }
     {
-        let n = raw.len();
-        if n < 3 || raw[1] != b' ' || raw[n - 1] != b'\n' {
+        let [letter, b' ', text @ .., b'\n'] = raw else {
             return Err(Fault::new(Refusal::Misshaped, Layer::Text, line));
-        }
-        let rest = &raw[2..n - 1];
-        match char::from(raw[0]) {
-            'R' => lead_line(rest, line),
-            'A' => actor_line(rest, line),
-            'L' => link_line(rest, line),
-            _ => Err(Fault::new(Refusal::Misshaped, Layer::Text, line)),
-        }
+        };
+        made_of(char::from(*letter), Words::of(text, line), line)
     }
 
     /// The record that the line writes. The first word that is no number refuses it.
@@ -51,68 +44,32 @@ impl<'a> Line<'a> {
     {
         match self {
             Line::Lead(lead) => Ok(Entry::Lead(lead.number()?)),
-            Line::Actor(processor, estimate) => {
-                let processor = processor.number()?;
-                let estimate = estimate.number()?;
-                Ok(Entry::Actor(Actor {
-                    processor,
-                    estimate,
-                }))
-            }
-            Line::Link(sender, receiver, delay) => {
-                let sender = sender.number()?;
-                let receiver = receiver.number()?;
-                let delay = delay.number()?;
-                Ok(Entry::Link(Link {
-                    sender,
-                    receiver,
-                    delay,
-                    mark: 0,
-                    size: 0,
-                }))
-            }
+            Line::Actor(processor, estimate) => Ok(Entry::Actor(Actor {
+                processor: processor.number()?,
+                estimate: estimate.number()?,
+            })),
+            Line::Link(sender, receiver, delay) => Ok(Entry::Link(Link {
+                sender: sender.number()?,
+                receiver: receiver.number()?,
+                delay: delay.number()?,
+                mark: 0,
+                size: 0,
+            })),
         }
     }
 }
 
-// A lead's line, from what follows the letter's space.
-fn lead_line<'a>(rest: &'a [u8], line: usize) -> Result<Line<'a>, Fault>
-    ensures { over held_line result ≡ lead_of line (split rest.now) }
+// The line that a letter and words make.
+fn made_of<'a>(letter: char, mut words: Words<'a>, line: usize) -> Result<Line<'a>, Fault>
+    ensures { over held_line result ≡ made_of line letter (words_left words.entry) }
 {
-    let lead = last(rest, line)?;
-    Ok(Line::Lead(lead))
-}
-
-// An actor's line, from what follows the letter's space.
-fn actor_line<'a>(rest: &'a [u8], line: usize) -> Result<Line<'a>, Fault>
-    ensures { over held_line result ≡ actor_of line (split rest.now) }
-{
-    let (processor, rest) = inner(rest, line)?;
-    let estimate = last(rest, line)?;
-    Ok(Line::Actor(processor, estimate))
-}
-
-// A link's line, from what follows the letter's space.
-fn link_line<'a>(rest: &'a [u8], line: usize) -> Result<Line<'a>, Fault>
-    ensures { over held_line result ≡ link_of line (split rest.now) }
-{
-    let (sender, rest) = inner(rest, line)?;
-    let (receiver, rest) = inner(rest, line)?;
-    let delay = last(rest, line)?;
-    Ok(Line::Link(sender, receiver, delay))
-}
-
-/// Where the line that begins at `at` ends, its line feed counted in.
-pub(crate) fn line_end(text: &[u8], at: usize) -> usize
-    requires { at < length text.now }
-    ensures value { result ≡ at + line_size (drop at text.now) }
-    ensures within { result ≤ length text.now }
-    ensures past { at < result }
-{
-    for i in at..text.len() {
-        if text[i] == b'\n' {
-            return i + 1;
+    let words = (words.next(), words.next(), words.next(), words.next());
+    match (letter, words) {
+        ('R', (Some(lead), None, _, _)) => Ok(Line::Lead(lead)),
+        ('A', (Some(processor), Some(estimate), None, _)) => Ok(Line::Actor(processor, estimate)),
+        ('L', (Some(sender), Some(receiver), Some(delay), None)) => {
+            Ok(Line::Link(sender, receiver, delay))
         }
+        _ => Err(Fault::new(Refusal::Misshaped, Layer::Text, line)),
     }
-    text.len()
 }

@@ -1,8 +1,10 @@
 // Words: what stands between single spaces of a line, and the numbers that words write.
-ghost use Rattle.std.specs.Prelude.{◌≡◌, ◌≤◌, length};
-ghost use Rattle.reader.specs.Numbers.{digits_from, number_of};
-ghost use Rattle.reader.specs.Words.{run, over, held, held_inner, inner_of, last_of};
+ghost use Rattle.std.specs.Prelude.{◌≡◌, ◌∷◌};
+ghost use Rattle.std.specs.Iterator.{YieldsFirstBy, item_count};
+ghost use Rattle.reader.specs.Numbers.{number_of};
+ghost use Rattle.reader.specs.Words.{split, split_rest, held, words_in, words_left};
 
+use crate::number::written_number;
 use records::{Fault, Layer, Refusal};
 
 /// A word: a part of the text, with its line, counted from 1.
@@ -15,70 +17,57 @@ pub(crate) struct Word<'a> {
 impl<'a> Word<'a> {
     /// The number that the word writes: one to seven digits, with no zero before others.
     /// Any other word is refused at its line.
+    #[tactic(auto, unfolding(crate::specs::Numbers::number_of))]
     pub(crate) fn number(&self) -> Result<u32, Fault>
         ensures { result ≡ number_of (held self.now) }
     {
-        let bytes = self.bytes;
-        let n = bytes.len();
-        if n == 0 || n > 7 || (n > 1 && bytes[0] == b'0') {
-            return Err(Fault::new(Refusal::NoNumber, Layer::Text, self.line));
-        }
-        digits(bytes, self.line)
+        written_number(self.bytes).ok_or(Fault::new(Refusal::NoNumber, Layer::Text, self.line))
     }
 }
 
-// The number that up to seven digits write.
-fn digits(bytes: &[u8], line: usize) -> Result<u32, Fault>
-    requires { length bytes.now ≤ 7 }
-    ensures { result ≡ digits_from line 0 bytes.now }
-{
-    let mut n = 0u32;
-    for b in bytes {
-        if *b < b'0' || *b > b'9' {
-            return Err(Fault::new(Refusal::NoNumber, Layer::Text, line));
-        }
-        n = n * 10 + (*b - b'0') as u32;
-    }
-    Ok(n)
+/// The words of a line that are left. Single spaces part them, so that there is one more than spaces.
+// Over the library's `split` and `map` the proof of `made_of` did not close: this iterator names the words that are left.
+#[derive(Drop)]
+pub(crate) struct Words<'a> {
+    rest: Option<&'a [u8]>,
+    line: usize,
 }
 
-// Where the first space stands, or the length.
-fn space(rest: &[u8]) -> usize
-    ensures value { result ≡ run rest.now }
-    ensures within { result ≤ length rest.now }
-{
-    for i in 0..rest.len() {
-        if rest[i] == b' ' {
-            return i;
-        }
-    }
-    rest.len()
-}
-
-/// The word before the first space, and what follows that space. It is refused where there is no space.
-pub(crate) fn inner<'a>(rest: &'a [u8], line: usize) -> Result<(Word<'a>, &'a [u8]), Fault>
-    ensures { over held_inner result ≡ inner_of line rest.now }
-{
-    let end = space(rest);
-    if end >= rest.len() {
-        return Err(Fault::new(Refusal::Misshaped, Layer::Text, line));
-    }
-    Ok((
-        Word {
-            bytes: &rest[0..end],
+impl<'a> Words<'a> {
+    /// All words of a part of a line.
+    pub(crate) fn of(text: &'a [u8], line: usize) -> Words<'a>
+        ensures { words_left result ≡ words_in line text.now }
+    {
+        Words {
+            rest: Some(text),
             line,
-        },
-        &rest[end + 1..],
-    ))
+        }
+    }
 }
 
-/// All that is left, as the last word. It is refused where a space stands in it.
-pub(crate) fn last<'a>(rest: &'a [u8], line: usize) -> Result<Word<'a>, Fault>
-    ensures { over held result ≡ last_of line rest.now }
-{
-    let end = space(rest);
-    if end < rest.len() {
-        return Err(Fault::new(Refusal::Misshaped, Layer::Text, line));
+impl<'a> Iterator for Words<'a> {
+    type Item = Word<'a>;
+
+    ghost next_gives = { YieldsFirstBy held words_left };
+
+    ghost remaining = { item_count words_left };
+
+    fn next(&mut self) -> Option<Word<'a>> {
+        let (bytes, rest) = first_word(self.rest?);
+        self.rest = rest;
+        Some(Word {
+            bytes,
+            line: self.line,
+        })
     }
-    Ok(Word { bytes: rest, line })
+}
+
+// The first word of a text, and what follows the space after it, if one stands there.
+fn first_word(text: &[u8]) -> (&[u8], Option<&[u8]>)
+    ensures { split text.now ≡ result.0.now ∷ split_rest result.1 }
+{
+    match text.iter().position(|b| *b == b' ') {
+        Some(end) => (&text[..end], Some(&text[end + 1..])),
+        None => (text, None),
+    }
 }

@@ -1,5 +1,3 @@
 -- Lemmas that are inductions, or that several proofs share.
-pub mod Digits
-pub mod Strips
 pub mod Counting
 pub mod Lines

@@ -1,27 +1,12 @@
 -- What the lines of calls say: each a word, a number and a line feed.
-use Rattle.std.specs.Prelude.{ℕ, ◌+◌, ◌-◌, ◌*◌, Bool, cond, ◌&&◌, ◌||◌, List, [], ◌∷◌, ◌++◌, length, take, drop, is_some, Some, None, codes, Option, ◌==◌, nat_le, nat_lt, slice_index}
+use Rattle.std.specs.Prelude.{ℕ, ◌+◌, ◌-◌, cond, List, [], ◌∷◌, ◌++◌, length, take, drop, is_some, Some, None, codes, Option}
 use Rattle.std.specs.Option.{option_map}
 use Rattle.std.specs.Str.{bytes_eq}
+use Rattle.reader.specs.Numbers.{written_number}
 use Rattle.running.specs.declared.Answer.TheVariants.{Open}
 use Rattle.running.specs.declared.Call.{Call}
 use Rattle.running.specs.declared.Call.TheVariants.{Start, Finish, Cells}
 use Rattle.running.specs.declared.Step.{Step}
-
-abbrev pub is_digit : ℕ → Bool
-is_digit b = nat_le 48 b && nat_le b 57
-
--- the digits after the number so far
-abbrev pub digits_from : ℕ → List ℕ → Option ℕ
-digits_from so_far [] = Some so_far
-digits_from so_far (b ∷ bs) = cond (is_digit b) (digits_from (so_far * 10 + (b - 48)) bs) None
-
--- no digit at all, more than seven, or a zero before others
-abbrev pub ill_sized : List ℕ → Bool
-ill_sized bs = length bs == 0 || (nat_lt 7 (length bs) || (nat_lt 1 (length bs) && slice_index bs 0 == 48))
-
--- the number that a word writes
-abbrev pub number_of : List ℕ → Option ℕ
-number_of bs = cond (ill_sized bs) None (digits_from 0 bs)
 
 -- what follows a word, if the line begins with it
 abbrev pub after : List ℕ → List ℕ → Option (List ℕ)
@@ -42,7 +27,7 @@ between word line = and_then (after word line) before_feed
 -- the call of a number that may be there; without one, the other
 abbrev pub or_else : Option (List ℕ) → (ℕ → Call) → Option Call → Option Call
 or_else None call other = other
-or_else (Some word) call other = option_map call (number_of word)
+or_else (Some word) call other = option_map call (written_number word)
 
 -- the call that a line makes
 abbrev pub call_of : List ℕ → Option Call

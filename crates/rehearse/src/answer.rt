@@ -3,6 +3,7 @@ use crate::calls::{bad_line, steps_of};
 use crate::desk::{LINKS, rehearse_text};
 use crate::parts::{Parts, parts_of};
 use crate::report::report;
+use reader::Lines;
 use records::Link;
 use std::alloc::Global;
 use std::io;
@@ -10,7 +11,7 @@ use std::io;
 /// The longest input that is answered, in bytes.
 pub const MOST_BYTES: usize = 1_048_576;
 
-fn rehearsed(heap: Global, drawing: &[u8], calls: &[u8]) -> io::Result<String> {
+fn rehearsed(heap: Global, drawing: &[u8], calls: Lines<'_>) -> io::Result<String> {
     let mut steps = steps_of(heap, calls)?;
     let mut links = [Link::default(); LINKS];
     match rehearse_text(drawing, &mut links, steps.as_mut_slice()) {
@@ -28,12 +29,8 @@ pub fn answer(heap: Global, input: &[u8]) -> io::Result<String> {
     if input.len() > MOST_BYTES {
         return Ok(String::from_str(heap, "too long\n")?);
     }
-    let Parts {
-        drawing,
-        calls,
-        first,
-    } = parts_of(input);
-    if let Some(line) = bad_line(calls, first) {
+    let Parts { drawing, calls } = parts_of(input);
+    if let Some(line) = bad_line(calls) {
         return Ok(format!(in heap; "bad line {line}\n")?);
     }
     rehearsed(heap, drawing, calls)

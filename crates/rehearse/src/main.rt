@@ -6,7 +6,6 @@ mod call;
 mod calls;
 mod desk;
 mod holding;
-mod number;
 mod parts;
 mod report;
 

@@ -1,14 +1,11 @@
 -- The lines that are left go on from the check so far.
-use Rattle.std.proofs.Common.{◌≡◌, ◌+◌, ◌-◌, ◌≤◌, length, drop}
+use Rattle.std.proofs.Common.{◌≡◌}
 use Rattle.reader.specs.Lines.{cut}
-use Rattle.reader.specs.Reading.{over_lines, check_step, passed}
+use Rattle.reader.specs.Reading.{over_lines, passed}
 use Rattle.reader.proofs.check.pass.Given as goal
 
-abbrev pub invariant-loop-at : goal.invariant-loop-at
-invariant-loop-at l =
-    (over_lines check_step l.line l.check (cut (drop l.at l.text)) ≡ passed l.initial.check l.text)
-    × (l.line ≤ l.at + 1)
-    × (l.at ≤ length l.text)
-
-abbrev pub decreases-loop-at : goal.decreases-loop-at
-decreases-loop-at l = length l.text - l.at
+abbrev pub invariant-loop-line : goal.invariant-loop-line
+invariant-loop-line g l =
+    (goal.iterator-loop-line g).can_next l.line-iterator
+    × (goal.iterator-loop-line g).is_finite l.line-iterator
+    × (over_lines (g.C.Check.step_of) l.line-iterator.number l.check (cut l.line-iterator.rest.now) ≡ passed g.C.Check.step_of l.initial.check l.text)

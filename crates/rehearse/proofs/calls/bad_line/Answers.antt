@@ -1,36 +1,26 @@
--- Each turn takes one line.
-use Rattle.std.proofs.Common.{◌≡◌, ◌<◌, true, false, length, is_some, sym, ap, ◌∙◌, arith}
-use Rattle.std.proofs.lemmas.Bool.Decides.{nat_tests}
-use Rattle.rehearse.specs.Calls.{call_of}
-use Rattle.rehearse.proofs.Lines.{bad_here, bad_later, bad_end}
+-- The first line that makes no call is found with its number.
+use Rattle.std.proofs.Common.{◌≡◌, ap, ◌∙◌, sym, rules, tests}
+use Rattle.std.specs.Option.{option_map}
+use Rattle.std.proofs.lemmas.Iterator.Search.{find_from_yields_List}
+use Rattle.reader.specs.Lines.{lines_left, number_next}
+use Rattle.reader.proofs.Cuts.{YieldsList-from_lines}
+use Rattle.rehearse.specs.Calls.{first_bad}
+use Rattle.rehearse.proofs.Lines.{is_bad, number_of, bad_found}
 use Rattle.rehearse.proofs.calls.bad_line.Goals as goal
+use Rattle.rehearse.proofs.calls.bad_line.Goals.{After-find}
 
-pub returns-then-is_none : goal.returns-then-is_none
-returns-then-is_none c =
-    let h : 0 < length c.loop-rest.rest.now = grind (arith, nat_tests) in
-    let b : is_some (call_of c.split_line.result.0.now) ≡ false
-    = ap is_some (sym c.call_of.ensures) ∙ c.if-is_none.ensures in
-    sym (bad_here c.loop-rest.number c.loop-rest.rest.now c.split_line.result.0.now h c.split_line.ensures.line b)
-    ∙ c.loop-rest.invariant.0
+found : (c : After-find)
+    → first_bad (number_next c.args.calls) (lines_left c.args.calls)
+    ≡ option_map number_of (option_map (λ x. (x.0, x.1.now)) c.find.result)
+found c =
+    bad_found (number_next c.args.calls) (lines_left c.args.calls)
+    ∙ ap (option_map number_of)
+    (sym
+    (find_from_yields_List is_bad c.find.new.self _ c.find.result c.find.ensures.ran (YieldsList-from_lines c.args.calls)
+    (λ x b q k. search (rules, tests))))
 
-pub loop-rest-smaller : goal.loop-rest-smaller
-loop-rest-smaller c =
-    let h : 0 < length c.loop-rest.rest.now = grind (arith, nat_tests) in
-    c.split_line.ensures.shorter h
-
-pub loop-rest-preserved : goal.loop-rest-preserved
-loop-rest-preserved c =
-    let h : 0 < length c.loop-rest.rest.now = grind (arith, nat_tests) in
-    let b : is_some (call_of c.split_line.result.0.now) ≡ true
-    = ap is_some (sym c.call_of.ensures) ∙ c.if-is_none.ensures in (
-      sym
-          (bad_later c.loop-rest.number c.loop-rest.rest.now c.split_line.result.0.now c.split_line.result.1.now h
-          c.split_line.ensures.line c.split_line.ensures.after b)
-          ∙ c.loop-rest.invariant.0,
-      omega (arith, c.split_line.ensures.shorter h, c.loop-rest.invariant.1),
-    )
+pub returns-in_err-number : goal.returns-in_err-number
+returns-in_err-number c = let f = found (goal.at.returns-in_err-number c).After-find in search rules
 
 pub returns : goal.returns
-returns c =
-    let z : length c.loop-rest.rest.now ≡ 0 = grind (arith, nat_tests) in
-    sym (bad_end c.loop-rest.number c.loop-rest.rest.now z) ∙ c.loop-rest.invariant.0
+returns c = let f = found (goal.at.returns c).After-find in search rules
