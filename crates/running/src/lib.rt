@@ -59,6 +59,34 @@ pub enum Answer {
     Refused(Fault),
 }
 
+impl From<Result<(), Fault>> for Answer {
+    ghost use Rattle.std.specs.Prelude.{◌≡◌};
+    ghost use Rattle.running.specs.Rehearsals.{done_or_refused};
+
+    ghost from_gives = { λ answer told. told ≡ done_or_refused answer };
+
+    fn from(answer: Result<(), Fault>) -> Answer {
+        match answer {
+            Ok(()) => Answer::Done,
+            Err(fault) => Answer::Refused(fault),
+        }
+    }
+}
+
+impl From<Result<Cells, Fault>> for Answer {
+    ghost use Rattle.std.specs.Prelude.{◌≡◌};
+    ghost use Rattle.running.specs.Rehearsals.{told_or_refused};
+
+    ghost from_gives = { λ answer told. told ≡ told_or_refused answer };
+
+    fn from(answer: Result<Cells, Fault>) -> Answer {
+        match answer {
+            Ok(cells) => Answer::Told(cells),
+            Err(fault) => Answer::Refused(fault),
+        }
+    }
+}
+
 /// A call with its answer.
 #[derive(Clone, Copy, PartialEq, Eq, Debug)]
 pub struct Step {

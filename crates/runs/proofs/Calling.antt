@@ -4,8 +4,9 @@ use Rattle.records.specs.declared.fault.Fault.{Fault}
 use Rattle.records.specs.declared.tables.Link.{Link}
 use Rattle.records.specs.Tables.{no_link}
 use Rattle.running.specs.declared.Act.{Act}
+use Rattle.running.specs.declared.Answer.{Answer}
 use Rattle.running.specs.declared.Step.{Step}
-use Rattle.running.specs.Rehearsals.{answered, after_call, carried, carried_to}
+use Rattle.running.specs.Rehearsals.{answered, answer_to, after_call, carried, carried_to}
 use Rattle.running.specs.Rows.{end_of}
 use Rattle.running.specs.Runs.{Site, Standing, act_check}
 use Rattle.running.proofs.Unsound.{no_act}
@@ -41,21 +42,38 @@ module _ (s : Site) where
   carried_to_next now (x ∷ xs) (suc i) d h = carried_to_next (after_call s now x.call) xs i d (omega arith)
 
   -- what comes next is as it was
-  pub carried_ahead : (now : Standing) (steps : List Step) (i : ℕ) (d : Step) → i < length steps
+  carried_ahead : (now : Standing) (steps : List Step) (i : ℕ) (d : Step) → i < length steps
       → get_or (carried s now (take i steps) ++ drop i steps) i d ≡ get_or steps i d
   carried_ahead now [] i d h = absurd (omega arith)
   carried_ahead now (x ∷ xs) zero d h = refl
   carried_ahead now (x ∷ xs) (suc i) d h = carried_ahead (after_call s now x.call) xs i d (omega arith)
 
   -- one more call has its answer
-  pub carried_more : (now : Standing) (steps : List Step) (i : ℕ) (d : Step) → i < length steps
+  carried_more : (now : Standing) (steps : List Step) (i : ℕ) (d : Step) → i < length steps
       → set (carried s now (take i steps) ++ drop i steps) i (answered s (carried_to s now (take i steps)) (get_or steps i d))
       ≡ carried s now (take (i + 1) steps) ++ drop (i + 1) steps
   carried_more now steps i d h =
       let next : suc i ≡ i + 1 = omega arith in
       carried_next now steps i d h ∙ ap (λ k. carried s now (take k steps) ++ drop k steps) next
 
-  pub carried_to_more : (now : Standing) (steps : List Step) (i : ℕ) (d : Step) → i < length steps
+  carried_to_more : (now : Standing) (steps : List Step) (i : ℕ) (d : Step) → i < length steps
       → after_call s (carried_to s now (take i steps)) (get_or steps i d).call ≡ carried_to s now (take (i + 1) steps)
   carried_to_more now steps i d h =
       let next : suc i ≡ i + 1 = omega arith in carried_to_next now steps i d h ∙ ap (λ k. carried_to s now (take k steps)) next
+
+  -- one more call, made of a run that sees s and has come to stand where the calls before it lead
+  pub call_more : (t : Site) (first now after : Standing) (steps xs : List Step) (i : ℕ) (d : Step) (r : Answer)
+      → t ≡ s → now ≡ carried_to s first (take i steps) → xs ≡ carried s first (take i steps) ++ drop i steps → i < length steps
+      → r ≡ answer_to t now (get_or xs i d).call → after ≡ after_call t now (get_or xs i d).call
+      → (set xs i (record { call = (get_or xs i d).call; answer = r }) ≡ carried s first (take (i + 1) steps) ++ drop (i + 1) steps)
+      × (after ≡ carried_to s first (take (i + 1) steps))
+  call_more t first now after steps xs i d r sees stands written h said left =
+      let then-stands = carried_to s first (take i steps) in
+      let here : get_or xs i d ≡ get_or steps i d = ap (λ ys. get_or ys i d) written ∙ carried_ahead first steps i d h in
+      let new : ◌≡◌ {A = Step} (record { call = (get_or xs i d).call; answer = r }) (answered s then-stands (get_or steps i d)) =
+      ap (λ (a : Answer). record { call = (get_or xs i d).call; answer = a }) (said ∙ ap (λ x. answer_to x now (get_or xs i d).call) sees ∙ ap (λ n. answer_to s n (get_or xs i d).call) stands)
+      ∙ ap (answered s then-stands) here in (
+        ap (set xs i) new ∙ ap (λ ys. set ys i (answered s then-stands (get_or steps i d))) written ∙ carried_more first steps i d h,
+        left ∙ ap (λ x. after_call x now (get_or xs i d).call) sees ∙ ap (λ n. after_call s n (get_or xs i d).call) stands
+            ∙ ap (λ (x : Step). after_call s then-stands x.call) here ∙ carried_to_more first steps i d h,
+      )

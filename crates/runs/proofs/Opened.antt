@@ -1,5 +1,5 @@
 -- What an opening without fault leaves known.
-use Rattle.std.proofs.Common.{◌≡◌, ℕ, zero, suc, ◌+◌, ◌<◌, ◌≤◌, Bool, true, false, not, ◌&&◌, ◌||◌, eqb, ltb, leb, List, [], ◌∷◌, length, get_or, take, is_some, Ok, Err, Option, Result, refl, ap, ◌∙◌, arith}
+use Rattle.std.proofs.Common.{◌≡◌, ℕ, zero, suc, ◌+◌, ◌<◌, ◌≤◌, Bool, true, false, not, ◌&&◌, ◌||◌, eqb, ltb, leb, List, [], ◌∷◌, length, get_or, take, Ok, Err, Option, Result, sym, refl, ap, ◌∙◌, subst, arith}
 use Rattle.std.proofs.lemmas.List.{length-take-le}
 use Rattle.std.proofs.lemmas.Bool.{or_parts, or_from, ltb-false, leb-false, eqb-false, ne_eqb}
 use Rattle.records.specs.declared.fault.Fault.{Fault}
@@ -17,12 +17,7 @@ use Rattle.running.specs.Rows.{guarded}
 use Rattle.running.specs.Runs.{far_processor, short, unfit_link, open_check, fault_of, site_of, standing, standing_if, all_rested, opened}
 use Rattle.running.specs.Claims.{OpensPlans}
 use Rattle.running.proofs.Claimed.{opens}
-use Rattle.runs.specs.Openings.{turns_if, row_if, GuardsFit, ProcessorsLow, EndsLow, HasCells}
-
--- where no fault arose, the check passed
-pub none_ok : (r : Result Unit Fault) → is_some (fault_of r) ≡ false → r ≡ Ok tt
-none_ok (Ok x) e = refl
-none_ok (Err f) e = let z : ◌≡◌ {A = ℕ} 0 1 = cc in absurd (omega arith)
+use Rattle.runs.specs.Openings.{turns_if, row_if, TablesFit, GuardsFit, ProcessorsLow, EndsLow, HasCells}
 
 near : (xs : List Actor) → far_processor xs ≡ false → ProcessorsLow xs
 near [] e a h = absurd (omega arith)
@@ -90,20 +85,32 @@ module _ (largest : ℕ) (t : Totals) (actors : List Actor) (links : List Link) 
       let all = next_ok (refuse_if tables (fault refusal.UnfitTables Run 0)) (λ _. refuse_first (unfit_link largest t.actors) refusal.UnfitLink Run 0 front) sound in
       fine largest t.actors (get_or front k no_link) (none_bad (unfit_link largest t.actors) refusal.UnfitLink Run 0 front no_link all k h)
 
-  pub few : length (take t.actors actors) ≤ 64
+  few : length (take t.actors actors) ≤ 64
   few = omega (arith, long, counts_low)
 
-  pub processors : ProcessorsLow (take t.actors actors)
+  processors : ProcessorsLow (take t.actors actors)
   processors = near (take t.actors actors) (or_parts (short t (length actors) (length links) row) (far_processor (take t.actors actors)) usable).1
 
-  pub ends : EndsLow (take t.actors actors) front
+  ends : EndsLow (take t.actors actors) front
   ends k h = let f = link_fine k h in (omega (arith, long, f.sender), omega (arith, long, f.receiver))
 
-  pub cells : HasCells front
+  cells : HasCells front
   cells k h = (link_fine k h).cells
 
-  pub guards : GuardsFit largest front
-  guards k h = (link_fine k h).guard
+  tables_fit : TablesFit (take t.actors actors) front
+  tables_fit = (few, processors, ends, cells)
+
+  guards_fit : GuardsFit largest front
+  guards_fit k h = (link_fine k h).guard
+
+-- an opening that passed its checks has fit tables, and its guards fit
+pub passed_fits : (largest : ℕ) (t : Totals) (actors xs : List Actor) (links ls : List Link) (row : ℕ)
+    → xs ≡ take t.actors actors → ls ≡ take (t.given + t.back) links → open_check largest t actors links row ≡ Ok tt
+    → TablesFit xs ls × GuardsFit largest ls
+passed_fits largest t actors xs links ls row ea el sound =
+    subst (λ ys. TablesFit ys ls × GuardsFit largest ls) (sym ea)
+    (subst (λ ms. TablesFit (take t.actors actors) ms × GuardsFit largest ms) (sym el)
+    (tables_fit largest t actors links row sound, guards_fit largest t actors links row sound))
 
 -- how a run stands at first, part by part
 pub opened_is : (largest : ℕ) (t : Totals) (actors : List Actor) (links : List Link) (row : List Level) (f : Option Fault) (xs : List Actor) (ls : List Link)

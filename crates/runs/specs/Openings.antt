@@ -25,6 +25,10 @@ EndsLow actors links = (k : ℕ) → k < length links → ((get_or links k no_li
 abbrev pub HasCells : List Link → Type 0
 HasCells links = (k : ℕ) → k < length links → (get_or links k no_link).mark ≤ 1 → 0 < (get_or links k no_link).size
 
+-- tables that a run can stand on; it has room for 64 actors
+abbrev pub TablesFit : List Actor → List Link → Type 0
+TablesFit actors links = (length actors ≤ 64) × ProcessorsLow actors × EndsLow actors links × HasCells links
+
 -- whose turn it is at first, and the guards at first
 abbrev pub turns_if : Option Fault → List Actor → List ℕ
 turns_if None actors = first_turns actors

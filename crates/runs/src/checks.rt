@@ -8,22 +8,18 @@ ghost use Rattle.running.specs.Runs.{far_processor, short, unfit_link, open_chec
 use crate::rows::is_guarded;
 use guards::Guard;
 use planner::Slip;
-use records::{Actor, Fault, Layer, Link, Refusal};
+use records::{Actor, Fault, Layer, Link, Mark, Refusal};
 
 /// How many actors a run has entries for.
 pub(crate) const ENTRIES: usize = 64;
 
 const LAST_PROCESSOR: u32 = 15;
 
-const LOCAL: u8 = 2;
-
-const LAST_MARK: u8 = 3;
-
 // Whether two counts together are at most the number of places.
 fn fits(given: usize, back: usize, places: usize) -> bool
     ensures { result ≡ nat_le (given + back) places }
 {
-    given <= places && back <= places - given
+    given.checked_add(back).is_some_and(|total| total <= places)
 }
 
 fn is_short(slip: &Slip, actors: usize, links: usize, row: usize) -> bool
@@ -38,12 +34,7 @@ fn is_short(slip: &Slip, actors: usize, links: usize, row: usize) -> bool
 fn has_far_processor(actors: &[Actor]) -> bool
     ensures { result ≡ far_processor actors.now }
 {
-    for i in 0..actors.len() {
-        if actors[i].processor > LAST_PROCESSOR {
-            return true;
-        }
-    }
-    false
+    actors.iter().any(|actor| actor.processor > LAST_PROCESSOR)
 }
 
 fn is_unfit(link: Link, n: usize, largest: u32) -> bool
@@ -51,40 +42,33 @@ fn is_unfit(link: Link, n: usize, largest: u32) -> bool
 {
     link.sender as usize >= n
         || link.receiver as usize >= n
-        || link.mark > LAST_MARK
-        || link.mark != LOCAL && (link.size == 0 || link.size < link.delay)
+        || link.mark > Mark::Back.number()
+        || !link.has_mark(Mark::Local) && (link.size == 0 || link.size < link.delay)
         || is_guarded(link) && link.size > largest
 }
 
 fn check_links(links: &[Link], n: usize, largest: u32) -> Result<(), Fault>
     ensures { result ≡ refuse_first (unfit_link largest n) Refusal.UnfitLink Run 0 links.now }
 {
-    for i in 0..links.len() {
-        if is_unfit(links[i], n, largest) {
-            return Err(Fault::new(Refusal::UnfitLink, Layer::Run, i));
-        }
+    match links.iter().position(|link| is_unfit(*link, n, largest)) {
+        Some(place) => Err(Fault::new(Refusal::UnfitLink, Layer::Run, place)),
+        None => Ok(()),
     }
-    Ok(())
 }
 
 /// The actors that the slip speaks of.
 pub(crate) fn actors_of<'t>(slip: &Slip, actors: &'t [Actor]) -> &'t [Actor]
     ensures { result.now ≡ take slip.now.actors actors.now }
 {
-    if slip.actors() <= actors.len() {
-        return &actors[0..slip.actors()];
-    }
-    actors
+    &actors[..slip.actors().min(actors.len())]
 }
 
 /// The given and back links that the slip speaks of.
 pub(crate) fn links_of<'t>(slip: &Slip, links: &'t [Link]) -> &'t [Link]
     ensures { result.now ≡ take (slip.now.given + slip.now.back) links.now }
 {
-    if fits(slip.given(), slip.back(), links.len()) {
-        return &links[0..slip.given() + slip.back()];
-    }
-    links
+    let total = slip.given().saturating_add(slip.back());
+    &links[..total.min(links.len())]
 }
 
 // Whether the tables or the row are too short, or a processor is too high.
@@ -95,6 +79,7 @@ fn is_unusable(slip: &Slip, actors: &[Actor], links: usize, row: usize) -> bool
 }
 
 /// Refuses tables and rows that no run can stand on.
+#[tactic(auto, unfolding(running::specs::Runs::open_check))]
 pub(crate) fn check_open<G: Guard>(
     slip: &Slip,
     actors: &[Actor],

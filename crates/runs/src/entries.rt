@@ -2,6 +2,7 @@
 ghost use Rattle.std.specs.Prelude.{◌≡◌};
 ghost use Rattle.running.specs.Entries.{entry_check, entry_if};
 
+use crate::rows::Event;
 use records::{Fault, Layer, Refusal};
 use running::{Act, Entry, State};
 
@@ -12,24 +13,27 @@ const MOST_STARTS: u32 = 1_000_000_000;
 /// is the lowest link whose guard stops it.
 pub(crate) fn advance(
     entry: &mut Entry,
-    act: Act,
-    actor: usize,
+    event: Event,
     turn: bool,
     blocked: Option<usize>,
 ) -> Result<(), Fault>
-    ensures answer { result ≡ entry_check act actor turn blocked entry.old }
-    ensures entry { entry.new ≡ entry_if (entry_check act actor turn blocked entry.old) act entry.old }
+    ensures answer { result ≡ entry_check event.act event.actor turn blocked entry.old }
+    ensures entry { entry.new ≡ entry_if (entry_check event.act event.actor turn blocked entry.old) event.act entry.old }
 {
-    match (entry.state, act) {
+    match (entry.state, event.act) {
         (_, Act::Start) if entry.starts >= MOST_STARTS => Err(Fault::new(
             Refusal::TooManyStarts,
             Layer::Run,
-            actor,
+            event.actor,
         )),
-        (State::Running, Act::Start) => Err(Fault::new(Refusal::NotItsTurn, Layer::Run, actor)),
+        (State::Running, Act::Start) => Err(Fault::new(
+            Refusal::NotItsTurn,
+            Layer::Run,
+            event.actor,
+        )),
         (State::Resting, Act::Start) => {
             if !turn {
-                return Err(Fault::new(Refusal::NotItsTurn, Layer::Run, actor));
+                return Err(Fault::new(Refusal::NotItsTurn, Layer::Run, event.actor));
             }
             if let Some(link) = blocked {
                 return Err(Fault::new(Refusal::EmptyLink, Layer::Run, link));
@@ -38,7 +42,7 @@ pub(crate) fn advance(
             entry.starts += 1;
             Ok(())
         }
-        (State::Resting, Act::Finish) => Err(Fault::new(Refusal::Resting, Layer::Run, actor)),
+        (State::Resting, Act::Finish) => Err(Fault::new(Refusal::Resting, Layer::Run, event.actor)),
         (State::Running, Act::Finish) => {
             if let Some(link) = blocked {
                 return Err(Fault::new(Refusal::Full, Layer::Run, link));

@@ -4,9 +4,10 @@ ghost use Rattle.records.specs.Faults.{told};
 ghost use Rattle.planning.specs.Planning.{Totals, drawing, planned};
 ghost use Rattle.planner.specs.Slips.{totals_of, slip_answer, slip_values};
 ghost use Rattle.running.specs.Claims.{Claim, Law};
-ghost use Rattle.running.specs.Rehearsals.{answer_values, carried, carried_to, plan_opened, rehearsed};
-ghost use Rattle.running.specs.Runs.{site_of, opened};
-ghost use Rattle.runs.specs.Alone.{Stand, guarded_if, guarded_in, plan_links_of};
+ghost use Rattle.running.specs.Rehearsals.{plan_opened};
+ghost use Rattle.running.specs.Runs.{opened};
+ghost use Rattle.runs.specs.Alone.{Stand, guarded_if};
+ghost use Rattle.runs.specs.Rehearsing.{Rehearses, rehearsed_on};
 
 use crate::run::open;
 use guards::Guard;
@@ -16,6 +17,7 @@ use records::{Actor, Fault, Link};
 use running::Step;
 
 // Opens a run, makes the calls, and closes it.
+#[tactic(auto, using(crate::proofs::Calling::stand_on))]
 fn run_plan<G: Guard>(
     slip: Slip,
     actors: &[Actor],
@@ -24,8 +26,8 @@ fn run_plan<G: Guard>(
     steps: &mut [Step],
 ) -> Slip
     ensures slip { result ≡ slip }
-    ensures steps { steps.new ≡ carried (site_of (totals_of slip) actors.now links.now) (opened G.Guard.LARGEST (totals_of slip) actors.now links.now (map G.Guard.level row.old)) steps.old }
-    ensures levels { map G.Guard.level row.new ≡ (carried_to (site_of (totals_of slip) actors.now links.now) (opened G.Guard.LARGEST (totals_of slip) actors.now links.now (map G.Guard.level row.old)) steps.old).row }
+    ensures steps { steps.new ≡ (rehearsed_on G.Guard.LARGEST (totals_of slip) actors.now links.now (map G.Guard.level row.old) steps.old).steps }
+    ensures levels { map G.Guard.level row.new ≡ (rehearsed_on G.Guard.LARGEST (totals_of slip) actors.now links.now (map G.Guard.level row.old) steps.old).row }
     ensures stand { Stand (guarded_if (opened G.Guard.LARGEST (totals_of slip) actors.now links.now (map G.Guard.level row.old)).fault) (take (slip.given + slip.back) links.now) row.old row.new }
 {
     let mut run = open(slip, actors, links, row);
@@ -37,6 +39,7 @@ fn run_plan<G: Guard>(
 /// its call's record, and closes the run. Answers the slip, or planning's refusal, which leaves guards and calls as they are;
 /// tables and workspaces are left as planning leaves them. If the row is too short, or this kind of guard cannot keep a size, the
 /// run is unsound, and every call has its refusal as answer. What holds of every run is `Claim`, and of this one `Law`.
+#[tactic(auto, using(std::proofs::lemmas::Result::err_from_is_err_and, crate::proofs::Rehearsing::made_refused, crate::proofs::Rehearsing::refused_plan, crate::proofs::Rehearsing::accepted_plan, crate::proofs::Rehearsing::when_refused, crate::proofs::Rehearsing::when_accepted, crate::proofs::Rehearsing::own_law, crate::proofs::Rehearsing::stand_accepted))]
 pub fn rehearse<G: Guard>(
     actors: &[Actor],
     links: &mut [Link],
@@ -53,10 +56,7 @@ pub fn rehearse<G: Guard>(
     ensures delays { delays.new ≡ (planned (drawing actors.now links.old given lead delays.old reach.old)).delays }
     ensures reach { reach.new ≡ (planned (drawing actors.now links.old given lead delays.old reach.old)).reach }
     ensures room { IfOk result (λ s. s.given + s.back ≤ length links.old) }
-    ensures steps { steps.new ≡ (rehearsed G.Guard.LARGEST (drawing actors.now links.old given lead delays.old reach.old) (map G.Guard.level row.old) steps.old).steps }
-    ensures answers { map (λ x. answer_values x.answer) steps.new ≡ map (λ x. answer_values x.answer) (rehearsed G.Guard.LARGEST (drawing actors.now links.old given lead delays.old reach.old) (map G.Guard.level row.old) steps.old).steps }
-    ensures levels { map G.Guard.level row.new ≡ (rehearsed G.Guard.LARGEST (drawing actors.now links.old given lead delays.old reach.old) (map G.Guard.level row.old) steps.old).row }
-    ensures stand { Stand (guarded_in G.Guard.LARGEST (drawing actors.now links.old given lead delays.old reach.old) (map G.Guard.level row.old)) (plan_links_of (planned (drawing actors.now links.old given lead delays.old reach.old)).answer links.new) row.old row.new }
+    ensures rehearsal { Rehearses G.Guard.level G.Guard.LARGEST (drawing actors.now links.old given lead delays.old reach.old) links.new row.old row.new steps.old steps.new }
     ensures claim { (t : Totals) → (planned (drawing actors.now links.old given lead delays.old reach.old)).answer ≡ Ok t → Claim (drawing actors.now links.old given lead delays.old reach.old) t }
     ensures law { (t : Totals) → (planned (drawing actors.now links.old given lead delays.old reach.old)).answer ≡ Ok t → (plan_opened G.Guard.LARGEST (drawing actors.now links.old given lead delays.old reach.old) t (map G.Guard.level row.old)).fault ≡ None → Law (drawing actors.now links.old given lead delays.old reach.old) steps.new (map G.Guard.level row.new) }
 {

@@ -8,7 +8,7 @@ use paths::{Algebra, Delay, Reach};
 use planner::{Slip, plan};
 use reader::read;
 use records::{Actor, Fault, Link};
-use running::{Answer, Call, Cells, Step};
+use running::Step;
 use runs::{Run, open, rehearse};
 use std::alloc::Global;
 use std::io;
@@ -22,31 +22,10 @@ pub enum Way {
     Rehearsed,
 }
 
-fn done(answer: Result<(), Fault>) -> Answer {
-    match answer {
-        Ok(()) => Answer::Done,
-        Err(fault) => Answer::Refused(fault),
-    }
-}
-
-fn told(answer: Result<Cells, Fault>) -> Answer {
-    match answer {
-        Ok(cells) => Answer::Told(cells),
-        Err(fault) => Answer::Refused(fault),
-    }
-}
-
-fn make_call<G: Guard>(run: &mut Run<G>, call: Call) -> Answer {
-    match call {
-        Call::Start(actor) => done(run.start(actor)),
-        Call::Finish(actor) => done(run.finish(actor)),
-        Call::Cells(link) => told(run.cells(link)),
-    }
-}
-
+// Makes the calls one after the other, and writes down what each answers.
 fn make_calls<G: Guard>(run: &mut Run<G>, steps: &mut [Step]) {
     for step in steps.iter_mut() {
-        step.answer = make_call(run, step.call);
+        step.answer = run.call(step.call);
     }
 }
 

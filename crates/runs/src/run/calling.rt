@@ -1,61 +1,40 @@
 // Calls one after the other, each with its answer.
-ghost use Rattle.std.specs.Prelude.{◌≡◌, map};
-ghost use Rattle.running.specs.Rehearsals.{done_or_refused, told_or_refused, answer_to, after_call, carried, carried_to};
-ghost use Rattle.running.specs.Runs.{site, standing};
+ghost use Rattle.std.specs.Prelude.{◌≡◌};
+ghost use Rattle.running.specs.Rehearsals.{answer_to, answer_values, after_call, carried, carried_to};
+ghost use Rattle.running.specs.Runs.{fault_of};
 ghost use Rattle.runs.specs.Alone.{Stand, guarded_if};
+ghost use Rattle.runs.specs.Seen.{site_of_run, standing_of_run, Kept};
 
 use super::Run;
 use guards::Guard;
-use records::Fault;
-use running::{Answer, Call, Cells, Step};
-
-fn done(answer: Result<(), Fault>) -> Answer
-    ensures { result ≡ done_or_refused answer }
-{
-    match answer {
-        Ok(()) => Answer::Done,
-        Err(fault) => Answer::Refused(fault),
-    }
-}
-
-fn told(answer: Result<Cells, Fault>) -> Answer
-    ensures { result ≡ told_or_refused answer }
-{
-    match answer {
-        Ok(cells) => Answer::Told(cells),
-        Err(fault) => Answer::Refused(fault),
-    }
-}
+use running::{Answer, Call, Step};
 
 impl<'actors, 'links, 'row, G: Guard> Run<'actors, 'links, 'row, G> {
-    // Makes one call.
-    fn call(&mut self, call: Call) -> Answer
-        ensures answer { result ≡ answer_to (site self.old.tables.actors.now self.old.tables.links.now) (standing self.old.tables.fault self.old.entries self.old.turns (map G.Guard.level self.old.row.now)) call }
-        ensures standing { standing self.new.tables.fault self.new.entries self.new.turns (map G.Guard.level self.new.row.now) ≡ after_call (site self.old.tables.actors.now self.old.tables.links.now) (standing self.old.tables.fault self.old.entries self.old.turns (map G.Guard.level self.old.row.now)) call }
-        ensures stand { Stand (guarded_if self.old.tables.fault) self.old.tables.links.now self.old.row.now self.new.row.now }
-        ensures tables { self.new.tables ≡ self.old.tables }
-        ensures slip { self.new.slip ≡ self.old.slip }
-        ensures named { self.new.row.ghost_name ≡ self.old.row.ghost_name }
+    /// Makes one call, and tells what it answers: that it was accepted, how the buffer is, or its refusal.
+    #[tactic(auto, using(crate::proofs::Calling::act_leaves))]
+    pub fn call(&mut self, call: Call) -> Answer
+        ensures answer { result ≡ answer_to (site_of_run self.old) (standing_of_run G.Guard.level self.old) call }
+        ensures view { answer_values result ≡ answer_values (answer_to (site_of_run self.old) (standing_of_run G.Guard.level self.old) call) }
+        ensures standing { standing_of_run G.Guard.level self.new ≡ after_call (site_of_run self.old) (standing_of_run G.Guard.level self.old) call }
+        ensures stand { Stand (guarded_if (fault_of self.old.tables.sound)) self.old.tables.links.now self.old.row.now self.new.row.now }
+        ensures kept { Kept self.old self.new }
     {
         match call {
-            Call::Start(actor) => done(self.start(actor)),
-            Call::Finish(actor) => done(self.finish(actor)),
-            Call::Cells(link) => told(self.cells(link)),
+            Call::Start(actor) => self.start(actor).into(),
+            Call::Finish(actor) => self.finish(actor).into(),
+            Call::Cells(link) => self.cells(link).into(),
         }
     }
 
     /// Makes the calls, one after the other, and writes each answer into its call's record.
     pub(crate) fn carry_out(&mut self, steps: &mut [Step])
-        ensures steps { steps.new ≡ carried (site self.old.tables.actors.now self.old.tables.links.now) (standing self.old.tables.fault self.old.entries self.old.turns (map G.Guard.level self.old.row.now)) steps.old }
-        ensures standing { standing self.new.tables.fault self.new.entries self.new.turns (map G.Guard.level self.new.row.now) ≡ carried_to (site self.old.tables.actors.now self.old.tables.links.now) (standing self.old.tables.fault self.old.entries self.old.turns (map G.Guard.level self.old.row.now)) steps.old }
-        ensures stand { Stand (guarded_if self.old.tables.fault) self.old.tables.links.now self.old.row.now self.new.row.now }
-        ensures tables { self.new.tables ≡ self.old.tables }
-        ensures slip { self.new.slip ≡ self.old.slip }
-        ensures named { self.new.row.ghost_name ≡ self.old.row.ghost_name }
+        ensures steps { steps.new ≡ carried (site_of_run self.old) (standing_of_run G.Guard.level self.old) steps.old }
+        ensures standing { standing_of_run G.Guard.level self.new ≡ carried_to (site_of_run self.old) (standing_of_run G.Guard.level self.old) steps.old }
+        ensures stand { Stand (guarded_if (fault_of self.old.tables.sound)) self.old.tables.links.now self.old.row.now self.new.row.now }
+        ensures kept { Kept self.old self.new }
     {
-        for i in 0..steps.len() {
-            let answer = self.call(steps[i].call);
-            steps[i].answer = answer;
+        for step in steps.iter_mut() {
+            step.answer = self.call(step.call);
         }
     }
 }

@@ -1,7 +1,7 @@
 // Closing a run.
 ghost use Rattle.std.specs.Prelude.{◌≡◌};
 
-use super::{Run, Tables};
+use super::Run;
 use guards::Guard;
 use planner::Slip;
 
@@ -14,16 +14,11 @@ impl<'actors, 'links, 'row, G: Guard> Run<'actors, 'links, 'row, G> {
         // The row is the caller's again, as it stands.
         let Run {
             slip,
-            tables,
+            tables: _,
             row: _row,
             entries: _,
             turns: _,
         } = self;
-        let Tables {
-            actors: _,
-            links: _,
-            fault: _,
-        } = tables;
         slip
     }
 }

@@ -1,23 +1,11 @@
-use Rattle.std.proofs.Common.{◌+◌, ◌||◌, drop, sym, ap, ◌∙◌, arith}
-use Rattle.std.proofs.lemmas.List.{at_drop_more, at_drop_all}
-use Rattle.std.proofs.lemmas.Bool.{lt-ltb, le-ltb}
-use Rattle.records.specs.Tables.{no_actor}
-use Rattle.running.specs.Runs.{far_processor}
+use Rattle.std.proofs.Common.{ltb, ◌∙◌, rules}
+use Rattle.std.proofs.lemmas.Iterator.{YieldsList-from_slice}
+use Rattle.std.proofs.lemmas.Iterator.Search.{any_from_yields_List}
+use Rattle.runs.proofs.Searches.{any_far}
 use Rattle.runs.proofs.checks.has_far_processor.Goals as goal
-
-pub returns-then-actors-i-gt-LAST_PROCESSOR : goal.returns-then-actors-i-gt-LAST_PROCESSOR
-returns-then-actors-i-gt-LAST_PROCESSOR c =
-    let i = c.loop-i.i in
-    sym (at_drop_more far_processor c.args.actors.now i no_actor (omega arith)
-    ∙ ap (λ b. b || far_processor (drop (i + 1) c.args.actors.now)) (lt-ltb _ _ (omega arith)))
-    ∙ c.loop-i.invariant
-
-pub loop-i-preserved : goal.loop-i-preserved
-loop-i-preserved c =
-    let i = c.loop-i.i in
-    sym (at_drop_more far_processor c.args.actors.now i no_actor (omega arith)
-    ∙ ap (λ b. b || far_processor (drop (i + 1) c.args.actors.now)) (le-ltb _ _ (omega arith)))
-    ∙ c.loop-i.invariant
+use borrow.Author.Tests.{tests}
 
 pub returns : goal.returns
-returns c = sym (at_drop_all far_processor c.args.actors.now c.loop-i.i (omega arith)) ∙ c.loop-i.invariant
+returns c =
+    any_from_yields_List (λ x. ltb 15 x.processor) _ _ c.any.result c.any.ensures.ran (YieldsList-from_slice c.args.actors.now cc) (λ x b q k. search (rules, tests))
+    ∙ any_far c.args.actors.now

@@ -1,7 +1,8 @@
-use Rattle.std.proofs.Common.{arith}
-use Rattle.std.proofs.lemmas.List.FromFn.{fill_by_all}
+use Rattle.std.proofs.Common.{rules}
 use Rattle.running.specs.Runs.{first_turn}
+use Rattle.runs.proofs.Searches.{made_by}
 use Rattle.runs.proofs.turns.first_turns.Goals as goal
+use borrow.Author.Tests.{tests}
 
 pub returns : goal.returns
-returns c = fill_by_all (first_turn c.args.actors.now) c.loop-p.turns 16 0 c.loop-p.invariant.0 (λ k h. c.loop-p.invariant.1 k (omega arith))
+returns c = made_by _ _ (first_turn c.args.actors.now) (λ i y q k. search (rules, tests)) c.from_fn.result 16 c.from_fn.ensures.items 0
