@@ -1,4 +1,7 @@
 // The blocks of a file of cases: a line of words and numbers, then a text and what is expected of it.
+ghost use Rattle.std.specs.Prelude.{length};
+ghost use Rattle.std.specs.Iterator.{at_most};
+
 use words::Words;
 
 /// One case: the lengths of what is lent, the text, and what is to be listed.
@@ -14,30 +17,51 @@ pub struct Case<'a> {
     pub expected: Option<&'a [u8]>,
 }
 
-/// The next case, or none at the end of the file.
-pub fn next_case<'a>(file: &mut Words<'a>) -> Option<Case<'a>> {
-    if file.is_empty() {
-        return None;
+/// The cases of a file that are left.
+#[derive(Drop)]
+pub struct Cases<'a> {
+    file: Words<'a>,
+}
+
+impl<'a> Cases<'a> {
+    /// All cases of a file.
+    pub fn of(file: &'a [u8]) -> Cases<'a> {
+        Cases {
+            file: Words::new(file),
+        }
     }
-    let short = file.word() == b"short".as_slice();
-    let _name = file.word();
-    let actors = file.number();
-    let links = file.number();
-    let delays = file.number();
-    let reach = file.number();
-    let out = file.number();
-    let text_count = file.number();
-    let expected_count = file.number();
-    let text = file.part(text_count);
-    let expected = file.part(expected_count);
-    let _end = file.part(1);
-    Some(Case {
-        actors,
-        links,
-        delays,
-        reach,
-        out,
-        text,
-        expected: if short { None } else { Some(expected) },
-    })
+}
+
+impl<'a> Iterator for Cases<'a> {
+    type Item = Case<'a>;
+
+    ghost remaining = { λ cases. at_most (length cases.file) };
+
+    fn next(&mut self) -> Option<Case<'a>> {
+        let file = &mut self.file;
+        if file.is_empty() {
+            return None;
+        }
+        let short = file.word() == b"short".as_slice();
+        let _name = file.word();
+        let actors = file.number();
+        let links = file.number();
+        let delays = file.number();
+        let reach = file.number();
+        let out = file.number();
+        let text_count = file.number();
+        let expected_count = file.number();
+        let text = file.part(text_count);
+        let expected = file.part(expected_count);
+        let _end = file.part(1);
+        Some(Case {
+            actors,
+            links,
+            delays,
+            reach,
+            out,
+            text,
+            expected: if short { None } else { Some(expected) },
+        })
+    }
 }

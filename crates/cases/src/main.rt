@@ -4,21 +4,16 @@
 mod blocks;
 mod trial;
 
-use blocks::next_case;
+use blocks::Cases;
 use std::{fs, io};
 use trial::Memory;
-use words::Words;
 
 fn main(rt: HostRuntime) -> io::Result<()> {
     let data = fs::read(&rt, "cases.txt")?;
-    let mut file = Words::new(data.as_slice());
     let mut memory = Memory::new();
     let mut tried = 0u32;
     let mut agreed = 0u32;
-    for _ in 0..data.len() {
-        let Some(case) = next_case(&mut file) else {
-            break;
-        };
+    for case in Cases::of(data.as_slice()) {
         tried = tried.saturating_add(1);
         if memory.agrees(&case) {
             agreed = agreed.saturating_add(1);

@@ -1,21 +1,12 @@
 -- Whether bytes fit an output, and what it holds as they are written.
-use Rattle.std.proofs.Common.{◌≡◌, ℕ, ◌+◌, ◌-◌, ◌<◌, ◌≤◌, false, leb, List, [], ◌++◌, length, drop, Ok, Result, sym, refl, ap, ◌∙◌, zero-add, arith}
+use Rattle.std.proofs.Common.{◌≡◌, ℕ, ◌+◌, ◌≤◌, leb, List, ◌++◌, length, drop, Ok, Result, sym, refl, ap, ◌∙◌, zero-add, arith}
 use lib.Seq.{paste}
-use Rattle.std.proofs.lemmas.List.Edits.{paste_all, paste_none, paste-paste}
+use Rattle.std.proofs.lemmas.List.Edits.{paste_all, paste-paste}
 use Rattle.std.proofs.lemmas.List.{length-append}
 use Rattle.std.proofs.lemmas.Bool.{cond-true, le-leb}
-use Rattle.std.proofs.lemmas.Bool.Decides.{nat_tests}
 use Rattle.records.specs.declared.fault.Fault.{Fault}
 use Rattle.planning.specs.Planning.{over}
 use Rattle.listing.specs.Listing.{written, fit_answer, fit_output}
-
--- of two lengths the first fits, and so both do if the second fits what is left
-pub fits_rest : (a b room : ℕ) → a ≤ room → leb (a + b) room ≡ leb b (room - a)
-fits_rest a b room h = grind (arith, nat_tests)
-
--- of two lengths the first does not fit, and so both do not
-pub fits_not : (a b room : ℕ) → room < a → leb (a + b) room ≡ false
-fits_not a b room h = grind (arith, nat_tests)
 
 -- the length of three parts, the middle one last
 pub three_lengths : (first middle last : List ℕ) → length (first ++ middle ++ last) ≡ length first + length last + length middle
@@ -25,9 +16,6 @@ three_lengths first middle last = omega (arith, length-append (first ++ middle) 
 pub written_more : (out : List ℕ) (at : ℕ) (s t : List ℕ) → at ≤ length out → written (written out at s) (at + length s) t ≡ written out at (s ++ t)
 written_more out at s t h =
     paste-paste out at s t (length s) (length t) refl refl h ∙ ap (λ n. paste out at (s ++ t) n) (sym (length-append s t))
-
-pub written_none : (out : List ℕ) (at : ℕ) → written out at [] ≡ out
-written_none out at = sym (paste_none out at [])
 
 -- bytes that fit are written at the start of the output
 module _ (bytes out : List ℕ) (fits : length bytes ≤ length out) where

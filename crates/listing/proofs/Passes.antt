@@ -1,6 +1,6 @@
 -- The lines of the links, one after another.
-use Rattle.std.proofs.Common.{◌≡◌, ℕ, ◌+◌, ◌<◌, ◌≤◌, List, [], ◌++◌, length, get_or, drop, sym, ap, ◌∙◌}
-use Rattle.std.proofs.lemmas.List.{length-append, at_drop_more, at_drop_all}
+use Rattle.std.proofs.Common.{◌≡◌, ℕ, ◌+◌, ◌<◌, List, ◌++◌, length, get_or, drop, sym, ap, ◌∙◌}
+use Rattle.std.proofs.lemmas.List.{length-append, at_drop_more}
 use Rattle.records.specs.declared.tables.Link.{Link}
 use Rattle.listing.specs.Lines.{link_line}
 use Rattle.listing.specs.Listing.{link_lines}
@@ -13,7 +13,3 @@ module _ (links : List Link) (i : ℕ) (d : Link) (line : List ℕ) (within : i 
 
   pub next_length : length (link_lines i (drop i links)) ≡ length line + length (link_lines (i + 1) (drop (i + 1) links))
   next_length = ap length next_line ∙ length-append line (link_lines (i + 1) (drop (i + 1) links))
-
--- no line is left
-pub no_line : (links : List Link) (i : ℕ) → length links ≤ i → link_lines i (drop i links) ≡ []
-no_line links i past = at_drop_all (link_lines i) links i past

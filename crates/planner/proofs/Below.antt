@@ -1,6 +1,8 @@
 -- A test of every number below another, and the chains that compute it.
-use Rattle.std.proofs.Common.{◌≡◌, ℕ, zero, suc, ◌+◌, Bool, true, false, not, ◌&&◌, ◌||◌, List, [], ◌∷◌, Option, refl, sym, ap, ◌∙◌, zero-add, arith}
-use Rattle.std.proofs.Math.Bool.{and_assoc, and_comm}
+use Rattle.std.proofs.Common.{◌≡◌, ℕ, zero, suc, Bool, true, false, not, ◌&&◌, ◌||◌, List, [], ◌∷◌, Option, refl, ap, ◌∙◌, zero-add, arith}
+use Rattle.std.proofs.Math.Bool.{and_comm, and-true}
+use Rattle.std.proofs.lemmas.List.Folds.{list_all-append}
+use Rattle.planner.proofs.Counting.{range_last}
 use Rattle.std.proofs.iter.Yields.{nat_range_steps}
 use Rattle.std.proofs.lemmas.Iterator.{YieldsList-from_range}
 use Rattle.std.proofs.lemmas.Iterator.Search.{all_from_yields_List, any_from_yields_List}
@@ -12,19 +14,12 @@ use Rattle.std.specs.declared.ops.Range.{Range}
 use denote.Param.Members.{Mut}
 use Rattle.planning.specs.Groups.{all_below}
 
--- the numbers of a range, of which the last stands apart
-all_last : (p : ℕ → Bool) (a k : ℕ) → list_all p (range_with_len a (suc k)) ≡ (p (a + k) && list_all p (range_with_len a k))
-all_last p a zero = let e : a ≡ a + 0 = omega arith in ap (λ i. p i && true) e
-all_last p a (suc k) =
-    let rest : Bool = list_all p (range_with_len (a + 1) k) in
-    let e : (a + 1) + k ≡ a + suc k = omega arith in
-    ap (λ x. p a && x) (all_last p (a + 1) k) ∙ ap (λ i. p a && (p i && rest)) e
-    ∙ sym (and_assoc (p a) (p (a + suc k)) rest) ∙ ap (λ x. x && rest) (and_comm (p a) (p (a + suc k))) ∙ and_assoc (p (a + suc k)) (p a) rest
-
 pub all_is_below : (p : ℕ → Bool) (k : ℕ) → list_all p (range_with_len 0 k) ≡ all_below p k
 all_is_below p zero = refl
 all_is_below p (suc k) =
-    all_last p 0 k ∙ ap (λ i. p i && list_all p (range_with_len 0 k)) (zero-add k) ∙ ap (λ x. p k && x) (all_is_below p k)
+    ap (list_all p) (range_last 0 k k (zero-add k)) ∙ list_all-append p (range_with_len 0 k) (k ∷ [])
+    ∙ ap (λ x. list_all p (range_with_len 0 k) && x) (and-true (p k)) ∙ and_comm (list_all p (range_with_len 0 k)) (p k)
+    ∙ ap (λ x. p k && x) (all_is_below p k)
 
 not_or : (a b : Bool) → not (a || b) ≡ (not a && not b)
 not_or true b = refl

@@ -1,11 +1,11 @@
 -- The ends of a drawing's edges are actors.
-use Rattle.std.proofs.Common.{◌≡◌, ℕ, zero, suc, ◌+◌, ◌<◌, ◌≤◌, ◌&&◌, eqb, leb, List, [], ◌∷◌, ◌++◌, map, length, IfSome, Some, None, Option, sym, subst, arith}
+use Rattle.std.proofs.Common.{◌≡◌, ℕ, zero, suc, ◌+◌, ◌<◌, ◌≤◌, ◌&&◌, eqb, leb, List, [], ◌∷◌, ◌++◌, map, length, take, IfSome, Some, None, Option, sym, subst, arith, length-take, get_or-take}
 use Rattle.std.specs.List.{range_with_len}
 use Rattle.std.proofs.lemmas.Bool.{cond_both}
 use Rattle.records.specs.declared.tables.Actor.{Actor}
 use Rattle.records.specs.declared.tables.Edge.{Edge}
 use Rattle.records.specs.declared.tables.Link.{Link}
-use Rattle.records.specs.Tables.{link_edge, processor_of}
+use Rattle.records.specs.Tables.{no_link, link_edge, processor_of}
 use Rattle.planning.specs.Edges.{last_on, edge_into, order_edge, orders, twins, without, Within}
 use Rattle.planner.specs.Skipping.{but}
 use Rattle.planner.specs.Within.{EndsBelow}
@@ -39,6 +39,14 @@ pub ends_from_within : (n : ℕ) (links : List Link) → Within n (map link_edge
 ends_from_within n [] w k h = absurd (omega arith)
 ends_from_within n (l ∷ ls) w zero h = w.0
 ends_from_within n (l ∷ ls) w (suc k) h = ends_from_within n ls w.1 k (omega arith)
+
+-- the first of some links
+pub ends_front : (n k : ℕ) (links : List Link) → EndsBelow n links → EndsBelow n (take k links)
+ends_front n k links known i h =
+    let within : i < k = omega (arith, length-take k links) in
+    let front = get_or-take k links i no_link within in
+    let ends = known i (omega (arith, length-take k links)) in
+    (rw front ends.0, rw front ends.1)
 
 -- links with the same edges
 pub ends_moved : (n : ℕ) (links others : List Link) → map link_edge others ≡ map link_edge links → EndsBelow n links → EndsBelow n others

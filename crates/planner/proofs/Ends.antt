@@ -14,6 +14,7 @@ use Rattle.planning.specs.Edges.{Within}
 use Rattle.planning.specs.Groups.{stands_better, stand_below, stand_in}
 use Rattle.planner.specs.Steps.{with_backs}
 use Rattle.planner.specs.Within.{EndsBelow}
+use Rattle.planner.proofs.Stands.{AllUnder}
 use Rattle.planner.proofs.Bounded.{links_within, ends_from_within}
 
 -- the ends of each link are below n, where the links are read one by one
@@ -33,11 +34,6 @@ fine_take n (suc k) (x ∷ xs) p = (p.0, fine_take n k xs p.1)
 ends_append : (n : ℕ) (xs ys : List Link) → EndsBelow n xs → EndsBelow n ys → EndsBelow n (xs ++ ys)
 ends_append n xs ys p q = ends_from_within n (xs ++ ys) (fine_append n xs ys (links_within n xs p) (links_within n ys q))
 
--- each of these actors is below n
-abbrev AllUnder : ℕ → List ℕ → Type 0
-AllUnder n [] = Unit {0}
-AllUnder n (u ∷ us) = (u < n) × AllUnder n us
-
 range_under : (n a k : ℕ) → a + k ≤ n → AllUnder n (range_with_len a k)
 range_under n a zero h = tt
 range_under n a (suc k) h = (omega arith, range_under n (a + 1) k (omega arith))
@@ -49,7 +45,7 @@ stand_below_under actors n delays u (suc k) hu hk =
     cond_both (stands_better actors n delays u k best) k best (λ w. w < n) (λ _. omega arith) (λ _. stand_below_under actors n delays u k hu (omega arith))
 
 module _ (g : Ground) where
-  stand_under : (u : ℕ) → u < count g → stand g u < count g
+  pub stand_under : (u : ℕ) → u < count g → stand g u < count g
   unfolding stand_in
   stand_under u h = stand_below_under g.actors (count g) g.delays u (count g) h (omega arith)
 

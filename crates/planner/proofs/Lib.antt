@@ -5,6 +5,7 @@ pub mod Refusing
 pub mod Below
 pub mod Heads
 pub mod Found
+pub mod Stands
 pub mod Bounded
 pub mod Ends
 pub mod Filling

@@ -1,7 +1,7 @@
 -- The search for the actor before another in its processor's order, and the edge that it gives.
-use Rattle.std.proofs.Common.{◌≡◌, ◌≢◌, ℕ, zero, suc, ◌<◌, ◌≤◌, List, length, take, slice_index_or, Some, None, Option, sym, refl, ap, ◌∙◌, ⊎_elim, arith, eq-eqb, ne_eqb}
+use Rattle.std.proofs.Common.{cond, eqb, ◌≡◌, ◌≢◌, ℕ, zero, suc, ◌<◌, ◌≤◌, List, length, take, Some, None, Option, sym, refl, ap, ◌∙◌, ⊎_elim, arith, eq-eqb, ne_eqb}
 use Rattle.std.proofs.lemmas.Bool.{cases_lt, cond-true, cond-false}
-use Rattle.std.proofs.lemmas.List.{get_or-take}
+use Rattle.std.proofs.lemmas.List.{get_or-take, length-take-le}
 use Rattle.records.specs.declared.tables.Actor.{Actor}
 use Rattle.std.specs.Option.{unwrap_or}
 use Rattle.records.specs.Tables.{edge, no_actor, processor_of}
@@ -23,22 +23,22 @@ module _ (actors : List Actor) (p : ℕ) where
       cond-true _ _ _ (eq-eqb (processor_of actors k) p (ap (processor_of actors) e ∙ here)) ∙ ap Some e)
       (cases_lt i k)
 
-  module _ (k : ℕ) where
-    -- the number j of the first k actors is not on the processor
-    abbrev elsewhere : ℕ → Type 0
-    elsewhere j = (slice_index_or (take k actors) j no_actor).processor ≢ p
+  -- a search for the last of the actors that is on the processor
+  pub last_found : (r : Option ℕ) → (r ≡ None → (j : ℕ) → j < length actors → processor_of actors j ≢ p)
+      → ((i : ℕ) → r ≡ Some i → (i < length actors) × (processor_of actors i ≡ p) × ((j : ℕ) → i < j → j < length actors → processor_of actors j ≢ p))
+      → r ≡ last_on actors p (length actors)
+  last_found None none some = sym (last_nowhere (length actors) (none refl))
+  last_found (Some i) none some = let f = some i refl in sym (last_here (length actors) i f.0 f.1 f.2)
 
-    elsewhere_among : (j : ℕ) → j < k → elsewhere j → processor_of actors j ≢ p
-    elsewhere_among j h ne e = ne (ap (λ a. a.processor) (get_or-take k actors j no_actor h) ∙ e)
+  last_among : (v k : ℕ) → k ≤ v → last_on (take v actors) p k ≡ last_on actors p k
+  last_among v zero h = refl
+  last_among v (suc k) h =
+      ap (λ a. cond (eqb a.processor p) (Some k) (last_on (take v actors) p k)) (get_or-take v actors k no_actor (omega arith))
+      ∙ ap (cond (eqb (processor_of actors k) p) (Some k)) (last_among v k (omega arith))
 
-    -- a search for the last of the first k actors that is on the processor
-    pub last_found : (r : Option ℕ) → (r ≡ None → (j : ℕ) → j < k → elsewhere j)
-        → ((i : ℕ) → r ≡ Some i → (i < k) × ((slice_index_or (take k actors) i no_actor).processor ≡ p) × ((j : ℕ) → i < j → j < k → elsewhere j))
-        → r ≡ last_on actors p k
-    last_found None none some = sym (last_nowhere k (λ j h. elsewhere_among j h (none refl j h)))
-    last_found (Some i) none some =
-        let f = some i refl in
-        sym (last_here k i f.0 (sym (ap (λ a. a.processor) (get_or-take k actors i no_actor f.0)) ∙ f.1) (λ j l h. elsewhere_among j h (f.2 j l h)))
+  -- among the first v of them
+  pub last_before : (v : ℕ) → v ≤ length actors → last_on (take v actors) p (length (take v actors)) ≡ last_on actors p v
+  last_before v h = ap (last_on (take v actors) p) (length-take-le v actors h) ∙ last_among v v (omega arith)
 
 pub order_edge_is : (actors : List Actor) (v : ℕ) (before last : Option ℕ)
     → before ≡ last_on actors (processor_of actors v) v → last ≡ last_on actors (processor_of actors v) (length actors)

@@ -1,9 +1,7 @@
 -- A search for the first element that is refused.
-use Rattle.std.proofs.Common.{◌≡◌, ℕ, zero, suc, ◌+◌, ◌<◌, ◌≤◌, Bool, true, false, cond, List, [], ◌∷◌, length, get_or, drop, Some, None, Option, Ok, Err, Result, sym, refl, ap, ◌∙◌}
+use Rattle.std.proofs.Common.{◌≡◌, ℕ, zero, suc, ◌+◌, Bool, true, false, cond, List, [], ◌∷◌, Some, None, Option, Ok, Err, Result, sym, refl, ap, ◌∙◌}
 use Rattle.std.specs.List.{position, position_from, find, range_with_len}
 use Rattle.std.specs.Option.{option_map}
-use Rattle.std.proofs.lemmas.Bool.{cond-true, cond-false}
-use Rattle.std.proofs.lemmas.List.{at_drop_more, at_drop_all}
 use Rattle.std.proofs.lemmas.Iterator.Adapters.{position_from-zero}
 use Rattle.records.specs.declared.fault.Fault.{Fault}
 use Rattle.records.specs.declared.fault.Layer.{Layer}
@@ -55,15 +53,3 @@ module _ (why : Refusal) (layer : Layer) where
     pub found_passes : (n : ℕ) (r : Option ℕ) → r ≡ None → option_map (λ x. x) r ≡ find bad (range_with_len 0 n)
         → Ok tt ≡ refuse_first bad why layer 0 (range_with_len 0 n)
     found_passes n r at found = ap refuse_at (sym at) ∙ sym (refuse_found n r found)
-
--- at the step of a loop that has come to i
-module _ {X : Type 0} (bad : X → Bool) (why : Refusal) (layer : Layer) (xs : List X) (i : ℕ) where
-  pub refuse_here : (d : X) → i < length xs → bad (get_or xs i d) ≡ true → refuse_first bad why layer i (drop i xs) ≡ Err (fault why layer i)
-  refuse_here d h t = at_drop_more (refuse_first bad why layer i) xs i d h ∙ cond-true _ _ _ t
-
-  pub refuse_later : (d : X) → i < length xs → bad (get_or xs i d) ≡ false
-      → refuse_first bad why layer i (drop i xs) ≡ refuse_first bad why layer (i + 1) (drop (i + 1) xs)
-  refuse_later d h t = at_drop_more (refuse_first bad why layer i) xs i d h ∙ cond-false _ _ _ t
-
-  pub refuse_none : length xs ≤ i → refuse_first bad why layer i (drop i xs) ≡ Ok tt
-  refuse_none h = at_drop_all (refuse_first bad why layer i) xs i h

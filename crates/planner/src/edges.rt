@@ -4,13 +4,12 @@ ghost use Rattle.planning.specs.Edges.{last_on, order_edge};
 
 use records::{Actor, Edge};
 
-// The highest actor below `below` on the processor.
-fn last_on(actors: &[Actor], processor: u32, below: usize) -> Option<usize>
-    requires { below ≤ length actors.now }
-    ensures value { result ≡ last_on actors.now processor below }
-    ensures within { IfSome result (λ u. u < below) }
+// The highest of these actors that is on the processor.
+fn last_on(actors: &[Actor], processor: u32) -> Option<usize>
+    ensures value { result ≡ last_on actors.now processor (length actors.now) }
+    ensures within { IfSome result (λ u. u < length actors.now) }
 {
-    actors[..below]
+    actors
         .iter()
         .rposition(|actor| actor.processor == processor)
 }
@@ -22,9 +21,9 @@ pub(crate) fn order_edge(actors: &[Actor], v: usize) -> Edge
     ensures within { (result.sender < length actors.now) × (result.receiver < length actors.now) }
 {
     let processor = actors[v].processor;
-    let (sender, delay) = match last_on(actors, processor, v) {
+    let (sender, delay) = match last_on(&actors[..v], processor) {
         Some(before) => (before, 0),
-        None => (last_on(actors, processor, actors.len()).unwrap_or(v), 1),
+        None => (last_on(actors, processor).unwrap_or(v), 1),
     };
     Edge {
         sender,

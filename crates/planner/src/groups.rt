@@ -99,13 +99,13 @@ impl Ground<'_, '_> {
         ensures value { let g = seen self.now in result ≡ stand_in g.actors (count g) g.delays u }
         ensures within { result < length self.now.actors.now }
     {
-        // Tried as a fold: that the closure may be called with each `best` was not proved.
-        let mut best = u;
-        for w in 0..self.actors.len() {
-            if self.stands_better(u, w, best) {
-                best = w;
-            }
-        }
-        best
+        (0..self.actors.len()).fold(
+            u,
+            |best, w| if self.stands_better(u, w, best) {
+                w
+            } else {
+                best
+            },
+        )
     }
 }

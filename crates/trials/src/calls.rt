@@ -1,9 +1,14 @@
 // The calls of a stored run, as records.
+use reader::Lines;
 use running::{Answer, Call, Step};
 use std::alloc::{AllocError, Global};
 use words::Words;
 
-fn call_of(word: &[u8], number: usize) -> Call {
+// The call that a line makes: a word and a number.
+fn call_of(line: &[u8]) -> Call {
+    let mut words = Words::new(line);
+    let word = words.word();
+    let number = words.number();
     match word {
         b"start" => Call::Start(number),
         b"finish" => Call::Finish(number),
@@ -13,18 +18,9 @@ fn call_of(word: &[u8], number: usize) -> Call {
 
 /// The calls, one to a line, none of them answered yet.
 pub fn steps_of(heap: Global, calls: &[u8]) -> Result<Vec<Step>, AllocError> {
-    let mut words = Words::new(calls);
-    let mut steps = Vec::new(heap);
-    for _ in 0..calls.len() {
-        if words.is_empty() {
-            break;
-        }
-        let word = words.word();
-        let call = call_of(word, words.number());
-        steps.push(Step {
-            call,
-            answer: Answer::Open,
-        })?;
-    }
-    Ok(steps)
+    let answer = Answer::Open;
+    Lines::of(calls)
+        .map(|(_, line)| call_of(line))
+        .map(|call| Step { call, answer })
+        .collect(heap)
 }

@@ -11,25 +11,17 @@ mod trial;
 use guards::{Counter, Guard, Pointers};
 use std::alloc::Global;
 use std::{fs, io};
-use stored::{Kind, Stored, next_stored};
+use stored::{Kind, Stored, StoredRuns};
 use trial::{Way, agrees};
-use words::Words;
 
 /// How many were tried, and how many of them agreed.
-#[derive(Clone, Copy)]
+#[derive(Clone, Copy, Default)]
 struct Tally {
     tried: u32,
     agreed: u32,
 }
 
 impl Tally {
-    fn new() -> Tally {
-        Tally {
-            tried: 0,
-            agreed: 0,
-        }
-    }
-
     // Counts what was tried.
     fn note(&mut self, answer: Option<bool>) {
         let Some(agrees) = answer else {
@@ -43,7 +35,7 @@ impl Tally {
 }
 
 /// The tallies of a whole file.
-#[derive(Clone, Copy)]
+#[derive(Clone, Copy, Default)]
 struct Tallies {
     runs: Tally,
     rehearsals: Tally,
@@ -67,15 +59,8 @@ impl Tallies {
 
 fn main(rt: HostRuntime) -> io::Result<()> {
     let data = fs::read(&rt, "runs.txt")?;
-    let mut file = Words::new(data.as_slice());
-    let mut tallies = Tallies {
-        runs: Tally::new(),
-        rehearsals: Tally::new(),
-    };
-    for _ in 0..data.len() {
-        let Some(stored) = next_stored(&mut file) else {
-            break;
-        };
+    let mut tallies = Tallies::default();
+    for stored in StoredRuns::of(data.as_slice()) {
         tallies.try_stored(rt.alloc(), &stored)?;
     }
     let Tallies { runs, rehearsals } = tallies;

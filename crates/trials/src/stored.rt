@@ -1,4 +1,7 @@
 // The blocks of a file of stored runs: a line of words and numbers, then the parts of one run.
+ghost use Rattle.std.specs.Prelude.{length};
+ghost use Rattle.std.specs.Iterator.{at_most};
+
 use words::Words;
 
 /// The kind of the guards of a run.
@@ -29,34 +32,55 @@ fn kind_of(word: &[u8]) -> Kind {
     }
 }
 
-/// The next stored run, or none at the end of the file.
-pub fn next_stored<'a>(file: &mut Words<'a>) -> Option<Stored<'a>> {
-    if file.is_empty() {
-        return None;
+/// The stored runs of a file that are left.
+#[derive(Drop)]
+pub struct StoredRuns<'a> {
+    file: Words<'a>,
+}
+
+impl<'a> StoredRuns<'a> {
+    /// All stored runs of a file.
+    pub fn of(file: &'a [u8]) -> StoredRuns<'a> {
+        StoredRuns {
+            file: Words::new(file),
+        }
     }
-    let _run = file.word();
-    let _name = file.word();
-    let kind = kind_of(file.word());
-    let actors = file.number();
-    let links = file.number();
-    let row = file.number();
-    let text_count = file.number();
-    let changes_count = file.number();
-    let calls_count = file.number();
-    let expected_count = file.number();
-    let text = file.part(text_count);
-    let changes = file.part(changes_count);
-    let calls = file.part(calls_count);
-    let expected = file.part(expected_count);
-    let _end = file.part(1);
-    Some(Stored {
-        kind,
-        actors,
-        links,
-        row,
-        text,
-        changes,
-        calls,
-        expected,
-    })
+}
+
+impl<'a> Iterator for StoredRuns<'a> {
+    type Item = Stored<'a>;
+
+    ghost remaining = { λ runs. at_most (length runs.file) };
+
+    fn next(&mut self) -> Option<Stored<'a>> {
+        let file = &mut self.file;
+        if file.is_empty() {
+            return None;
+        }
+        let _run = file.word();
+        let _name = file.word();
+        let kind = kind_of(file.word());
+        let actors = file.number();
+        let links = file.number();
+        let row = file.number();
+        let text_count = file.number();
+        let changes_count = file.number();
+        let calls_count = file.number();
+        let expected_count = file.number();
+        let text = file.part(text_count);
+        let changes = file.part(changes_count);
+        let calls = file.part(calls_count);
+        let expected = file.part(expected_count);
+        let _end = file.part(1);
+        Some(Stored {
+            kind,
+            actors,
+            links,
+            row,
+            text,
+            changes,
+            calls,
+            expected,
+        })
+    }
 }

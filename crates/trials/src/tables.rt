@@ -1,4 +1,5 @@
 // The tables that a stored run is planned in, and the changes that are made in them.
+use reader::Lines;
 use records::{Actor, Link};
 use words::Words;
 
@@ -37,11 +38,8 @@ fn change_link(words: &mut Words<'_>, links: &mut [Link]) {
 
 /// Makes the changes: lines `a I PROCESSOR` and `l I SENDER RECEIVER DELAY MARK SIZE`.
 pub fn change(changes: &[u8], actors: &mut [Actor], links: &mut [Link]) {
-    let mut words = Words::new(changes);
-    for _ in 0..changes.len() {
-        if words.is_empty() {
-            break;
-        }
+    for (_, line) in Lines::of(changes) {
+        let mut words = Words::new(line);
         if words.word() == b"a".as_slice() {
             change_actor(&mut words, actors);
         } else {

@@ -13,7 +13,7 @@ use runs::{Run, open, rehearse};
 use std::alloc::Global;
 use std::io;
 
-/// How the calls of a stored run are made.
+/// How the calls of a stored run are made. An enum, since a closure for each way would have to answer two questions.
 #[derive(Clone, Copy)]
 pub enum Way {
     /// In a run that is opened on the stored lengths, after the changes.

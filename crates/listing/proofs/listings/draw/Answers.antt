@@ -2,7 +2,7 @@ use Rattle.std.proofs.Common.{length, Err, ap, ◌∙◌}
 use Rattle.std.proofs.lemmas.Result.{err_from_is_err_and}
 use Rattle.reader.specs.Reading.{reading}
 use Rattle.listing.specs.Listed.{listed}
-use Rattle.listing.proofs.Drawing.{read_refused, read_passed, drawn_refused, actors_within, drawn_planned}
+use Rattle.listing.proofs.Drawing.{read_refused, read_passed, drawn_refused, drawn_planned}
 use Rattle.listing.proofs.listings.draw.Goals as goal
 
 pub returns-in_err-counts : goal.returns-in_err-counts

@@ -1,7 +1,7 @@
-use Rattle.std.proofs.Common.{ℕ, ◌+◌, ◌≤◌, List, length, drop, sym, ap, ◌∙◌, arith}
-use Rattle.listing.specs.Listing.{link_lines, written}
-use Rattle.listing.proofs.Fitting.{written_more, written_none}
-use Rattle.listing.proofs.Passes.{next_line, next_length, no_line}
+use Rattle.std.proofs.Common.{ℕ, ◌+◌, ◌≤◌, List, length, drop, ◌∙◌, arith}
+use Rattle.listing.specs.Listing.{link_lines}
+use Rattle.listing.proofs.Fitting.{written_more}
+use Rattle.listing.proofs.Passes.{next_line, next_length}
 use Rattle.listing.proofs.write.put_links.Goals as goal
 
 pub loop-number-preserved : goal.loop-number-preserved

@@ -5,4 +5,4 @@ use Rattle.planner.proofs.edges.last_on.Goals as goal
 
 pub returns-clause-value : goal.returns-clause-value
 returns-clause-value c =
-    last_found c.args.actors.now c.args.processor c.args.below c.rposition.result (λ e k h. search (rules, chains)) (λ i e. search (rules, chains))
+    last_found c.args.actors.now c.args.processor c.rposition.result (λ e k h. search (rules, chains)) (λ i e. search (rules, chains))

@@ -1,10 +1,17 @@
-use Rattle.std.proofs.Common.{refl}
-use Rattle.planner.proofs.Orders.{order_edge_is, order_edge_first}
+use Rattle.std.proofs.Common.{refl, ◌∙◌, arith}
+use Rattle.records.specs.Tables.{processor_of}
+use Rattle.planner.proofs.Orders.{last_before, order_edge_is, order_edge_first}
 use Rattle.planner.proofs.edges.order_edge.Goals as goal
 
 pub returns-in-Some-clause-value : goal.returns-in-Some-clause-value
-returns-in-Some-clause-value c = order_edge_is c.args.actors.now c.args.v _ _ c.in-Some.ensures.value refl
+returns-in-Some-clause-value c =
+    let actors = c.args.actors.now in
+    let v = c.args.v in
+    order_edge_is actors v _ _ (c.in-Some.ensures.value ∙ last_before actors (processor_of actors v) v (omega arith)) refl
 
 pub returns-in-None-clause-value : goal.returns-in-None-clause-value
 returns-in-None-clause-value c =
-    order_edge_first c.args.actors.now c.args.v c.unwrap_or.result c.last_on-in-None.result c.in-None.ensures.value c.last_on-in-None.ensures.value c.unwrap_or.ensures
+    let actors = c.args.actors.now in
+    let v = c.args.v in
+    order_edge_first actors v c.unwrap_or.result c.last_on-in-None.result (c.in-None.ensures.value ∙ last_before actors (processor_of actors v) v (omega arith))
+    c.last_on-in-None.ensures.value c.unwrap_or.ensures

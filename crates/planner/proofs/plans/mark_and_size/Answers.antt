@@ -1,13 +1,17 @@
 use Rattle.std.proofs.Common.{length, ap, ◌∙◌}
 use Rattle.planning.specs.Costs.{cost_after}
-use Rattle.planner.proofs.Bounded.{ends_moved}
+use Rattle.planner.proofs.Bounded.{ends_front, ends_moved}
 use Rattle.planner.proofs.Finishing.{marked_edges, delays_filled, links_finished}
 use Rattle.planner.proofs.plans.mark_and_size.Goals as goal
 
-pub invariant_of-graph : goal.invariant_of-graph
-invariant_of-graph c =
-    let same = marked_edges c.args.actors.now c.args.links.now c.args.given c.mark_links.new.links c.mark_links.ensures.links in
-    record { few = c.requires.few; ends = ends_moved (length c.args.actors.now) c.args.links.now c.mark_links.new.links same c.requires.ends }
+-- said of a part of the links too, so that what is laid is judged by the delays
+pub invariant_of-graph-clause-ends : goal.invariant_of-graph-clause-ends
+invariant_of-graph-clause-ends c =
+    let n = length c.args.actors.now in
+    let links = c.mark_links.new.links in
+    let same = marked_edges c.args.actors.now c.args.links.now c.args.given links c.mark_links.ensures.links in
+    let ends = ends_moved n c.args.links.now links same c.requires.ends in
+    search (ends, ends_front n c.args.given links ends)
 
 pub returns : goal.returns
 returns c =

@@ -1,7 +1,6 @@
 -- Each turn counts one step more.
-use Rattle.std.proofs.Common.{◌≡◌, ◌+◌, max, List, take, ap, subst, arith, length-take, take_all}
-use Rattle.running.specs.declared.Step.{Step}
-use Rattle.rehearse.specs.Holding.{is_start, is_finish, count, held_after, Most}
+use Rattle.std.proofs.Common.{◌≡◌, ◌+◌, max, take, arith, length-take}
+use Rattle.rehearse.specs.Holding.{is_start, is_finish, count, held_after}
 use Rattle.rehearse.proofs.Counting.{count_most, counted, passed_over, most_more}
 use Rattle.rehearse.proofs.holding.holding_of.Goals as goal
 use Rattle.rehearse.proofs.holding.holding_of.Goals.{then-is_start, else-is_start, then-is_finish, else-is_finish}
@@ -75,15 +74,3 @@ loop-step-preserved c =
       most_more c.args.link c.args.steps.now c.loop-step.step-index c.loop-step.most c.max-most.result c.loop-step-test.true
           c.loop-step.invariant.2 e,
     )
-
-pub returns : goal.returns
-returns c =
-    let t : take c.loop-step.step-index c.args.steps.now ≡ c.args.steps.now
-    = take_all c.loop-step.step-index c.args.steps.now c.loop-step-test.false in
-    let made_all = ap (λ (xs : List Step). c.args.link.delay + count (is_start c.args.link.sender) xs) t in
-    let used_all = ap (count (is_finish c.args.link.receiver)) t in
-    let i = c.loop-step.invariant in
-    record {
-      held = cc;
-      most = subst (λ (xs : List Step). Most c.args.link xs c.loop-step.most) t c.loop-step.invariant.2;
-    }
