@@ -7,6 +7,7 @@ pub(crate) fn word_of_mark(mark: u8) -> &'static [u8]
     ensures word { result.now ≡ mark_word mark }
     ensures len { length result.now ≤ 4 }
 {
+    // By number, since a table may hold a mark that is none of the four, and it has a word too.
     match mark {
         0 => b"drop",
         1 => b"kept",

@@ -71,6 +71,7 @@ impl Ground<'_, '_> {
         requires { p < length self.now.actors.now }
         ensures { listed found.new ≡ take 15 (listed found.old ++ chain (seen self.now) None (groups_of (seen self.now) end p)) }
     {
+        // Not over a `filter`: a head is joined to the one before it, which is kept from turn to turn.
         let mut earlier = None;
         for u in 0..self.actors.len() {
             if self.heads(end, p, u) {
@@ -105,6 +106,7 @@ impl Ground<'_, '_> {
         ensures { listed result ≡ backs (seen self.now) lead }
     {
         let mut found = BackLinks::new();
+        // By number, since a part goes by the number of its lowest actor.
         for p in 0..self.actors.len() {
             if self.wants_backs(p) {
                 self.add_part(p, lead, &mut found);

@@ -69,6 +69,7 @@ impl Graph<'_> {
         requires { pair_count self.now.actors.now ≤ length cells.old }
         ensures { cells.new ≡ laid sight T.ops (length self.now.actors.now) cells.old (orders self.now.actors.now) }
     {
+        // By number, since the edge into an actor is found among all actors.
         for v in 0..self.actors.len() {
             self.lay_seen(cells, sight, order_edge(self.actors, v));
         }

@@ -17,6 +17,7 @@ fn times<G: Guard, F: FnMut(&mut G) -> Result<(), Fault>>(guard: G, mut step: F)
     requires { F.IsAlwaysCallable step }
 {
     let mut spare = guard;
+    // Tried as a `find`: that the step may be called again after it changed the guard was not proved.
     for turn in 0..TURNS {
         if step(&mut spare).is_err() {
             return turn;

@@ -131,9 +131,6 @@ pub fn agrees<G: Guard>(heap: Global, stored: &Stored<'_>, way: Way) -> io::Resu
     let Ok(stale) = G::fresh(STALE.count, STALE.size) else {
         return Ok(Some(false));
     };
-    let mut row = Vec::new(heap);
-    for _ in 0..stored.row {
-        row.push(stale)?;
-    }
+    let mut row = vec![in heap; stale; stored.row]?;
     agrees_on(heap, stored, way, row.as_mut_slice())
 }
