@@ -1,6 +1,6 @@
 -- Back links that are found one after the other, of which the first fifteen are kept.
-use Rattle.std.proofs.Common.{◌≡◌, ℕ, zero, suc, ◌≤◌, List, [], ◌∷◌, ◌++◌, length, take, sym, refl, ap, ◌∙◌, arith}
-use Rattle.std.proofs.lemmas.List.{append_assoc, append-nil, length-take, take_all, take_at}
+use Rattle.std.proofs.Common.{◌≡◌, ℕ, zero, suc, ◌≤◌, List, [], ◌∷◌, ◌++◌, length, take, sym, refl, ap, ◌∙◌}
+use Rattle.std.proofs.lemmas.List.{append_assoc, append-nil, take_all, take_at}
 use Rattle.planner.specs.declared.back_links.BackLinks.{BackLinks}
 use Rattle.planner.specs.Views.{listed}
 
@@ -19,7 +19,7 @@ pub none_more : {X : Type 0} (k : ℕ) (xs : List X) → length xs ≤ k → xs 
 none_more k xs h = sym (ap (take k) (append-nil xs) ∙ take_all k xs h)
 
 pub listed_few : (b : BackLinks) → length (listed b) ≤ 15
-listed_few b = omega (arith, b.few, length-take b.len b.links)
+listed_few b = b.few
 
 -- of the whole, which comes after what was there before, the rest is still to come
 pub record Finding {X : Type 0} (before whole now rest : List X) : Type 0 where

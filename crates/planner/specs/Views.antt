@@ -1,5 +1,5 @@
 -- What the code's records hold, in the words of the definitions.
-use Rattle.std.specs.Prelude.{List, take}
+use Rattle.std.specs.Prelude.{List}
 use Rattle.records.specs.declared.tables.Link.{Link}
 use Rattle.planning.specs.Backs.{Ground}
 use Rattle.planner.specs.declared.back_links.BackLinks.{BackLinks}
@@ -10,4 +10,4 @@ seen g = record { actors = g.actors.now; delays = g.delays.cells.now; joined = g
 
 -- the back links that are found
 abbrev pub listed : BackLinks → List Link
-listed b = take b.len b.links
+listed b = b.links.items

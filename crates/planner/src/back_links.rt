@@ -1,20 +1,19 @@
 // The back links that are found, in their order.
-ghost use Rattle.std.specs.Prelude.{◌≤◌};
+ghost use Rattle.std.specs.Prelude.{◌≤◌, length};
 
 use crate::checks::BACKS;
+use arrayvec::ArrayVec;
 use records::Link;
 
-/// At most as many back links as the link table has room for. It is an array with a length, and no `Vec`, because the
-/// library crates allocate nothing.
+/// At most as many back links as the link table has room for.
 #[derive(Drop)]
 pub(crate) struct BackLinks {
-    links: [Link; BACKS],
-    len: usize,
-    ghost few: { len ≤ 15 },
+    links: ArrayVec<Link, BACKS>,
+    ghost few: { length links.items ≤ 15 },
 }
 
 impl BackLinks {
-    ghost use Rattle.std.specs.Prelude.{◌≡◌, ◌+◌, [], ◌∷◌, ◌++◌, length, take};
+    ghost use Rattle.std.specs.Prelude.{◌≡◌, [], ◌∷◌, ◌++◌, take};
     ghost use Rattle.planner.specs.Views.{listed};
 
     /// No link yet.
@@ -22,8 +21,7 @@ impl BackLinks {
         ensures { listed result ≡ [] }
     {
         BackLinks {
-            links: [Link::default(); BACKS],
-            len: 0,
+            links: ArrayVec::new(),
         }
     }
 
@@ -31,9 +29,8 @@ impl BackLinks {
     pub(crate) fn push(&mut self, link: Link)
         ensures { listed self.new ≡ take 15 (listed self.old ++ (link ∷ [])) }
     {
-        if self.len < BACKS {
-            self.links[self.len] = link;
-            self.len += 1;
+        if !self.links.is_full() {
+            self.links.push(link);
         }
     }
 
@@ -41,6 +38,6 @@ impl BackLinks {
     pub(crate) fn as_slice(&self) -> &[Link]
         ensures { result.now ≡ listed self.now }
     {
-        &self.links[..self.len]
+        self.links.as_slice()
     }
 }

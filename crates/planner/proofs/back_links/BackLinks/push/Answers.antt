@@ -1,10 +1,8 @@
-use Rattle.std.proofs.Common.{[], ◌∷◌, arith}
-use Rattle.std.proofs.lemmas.List.{length-take-le}
+use Rattle.std.proofs.Common.{[], ◌∷◌, rules}
 use Rattle.planner.specs.Views.{listed}
 use Rattle.planner.proofs.Found.{full}
 use Rattle.planner.proofs.back_links.BackLinks.push.Goals as goal
 
-pub returns-else-self-lt-BACKS : goal.returns-else-self-lt-BACKS
-returns-else-self-lt-BACKS c =
-    let s = c.args.self.now in
-    full 15 (listed s) (c.args.link ∷ []) (omega (arith, s.few, length-take-le s.len s.links (omega arith)))
+pub returns-else-not-is_full : goal.returns-else-not-is_full
+returns-else-not-is_full c =
+    full 15 (listed c.args.self.now) (c.args.link ∷ []) (search rules)
