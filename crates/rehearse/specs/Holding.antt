@@ -14,23 +14,28 @@ if_done Done b = b
 if_done (Told c) b = false
 if_done (Refused f) b = false
 
-abbrev pub starts_at : ℕ → Call → Bool
-starts_at actor (Start n) = n == actor
-starts_at actor (Finish n) = false
-starts_at actor (Cells n) = false
+abbrev pub same_call : Call → Call → Bool
+same_call (Start a) (Start b) = a == b
+same_call (Finish a) (Finish b) = a == b
+same_call (Cells a) (Cells b) = a == b
+same_call (Start a) (Finish b) = false
+same_call (Start a) (Cells b) = false
+same_call (Finish a) (Start b) = false
+same_call (Finish a) (Cells b) = false
+same_call (Cells a) (Start b) = false
+same_call (Cells a) (Finish b) = false
 
-abbrev pub finishes_at : ℕ → Call → Bool
-finishes_at actor (Start n) = false
-finishes_at actor (Finish n) = n == actor
-finishes_at actor (Cells n) = false
+-- the step is this call, accepted
+abbrev pub is_accepted : Call → Step → Bool
+is_accepted call s = if_done s.answer (same_call s.call call)
 
 -- the step is a start of the actor that was accepted
 abbrev pub is_start : ℕ → Step → Bool
-is_start actor s = if_done s.answer (starts_at actor s.call)
+is_start actor s = is_accepted (Start actor) s
 
 -- the step is a finish of the actor that was accepted
 abbrev pub is_finish : ℕ → Step → Bool
-is_finish actor s = if_done s.answer (finishes_at actor s.call)
+is_finish actor s = is_accepted (Finish actor) s
 
 -- how many of the steps are so
 abbrev pub count : (Step → Bool) → List Step → ℕ

@@ -1,6 +1,6 @@
 // What a link holds in the course of a run.
 ghost use Rattle.std.specs.Prelude.{◌≡◌};
-ghost use Rattle.rehearse.specs.Holding.{is_start, is_finish, held_after, Most};
+ghost use Rattle.rehearse.specs.Holding.{is_accepted, held_after, Most};
 
 use records::Link;
 use running::{Answer, Call, Step};
@@ -12,24 +12,15 @@ pub struct Holding {
     pub most: u128,
 }
 
-// Whether the step is a start of the actor that was accepted.
-fn is_start(step: Step, actor: usize) -> bool
-    ensures { result ≡ is_start actor step }
+// Whether the step is this call, accepted.
+fn is_accepted(step: &Step, call: Call) -> bool
+    ensures { result ≡ is_accepted call step.now }
 {
-    match (step.call, step.answer) {
-        (Call::Start(started), Answer::Done) => started == actor,
-        _ => false,
-    }
-}
-
-// Whether the step is a finish of the actor that was accepted.
-fn is_finish(step: Step, actor: usize) -> bool
-    ensures { result ≡ is_finish actor step }
-{
-    match (step.call, step.answer) {
-        (Call::Finish(finished), Answer::Done) => finished == actor,
-        _ => false,
-    }
+    *step
+        == Step {
+            call,
+            answer: Answer::Done,
+        }
 }
 
 /// What the link holds after the steps. It holds its delay at first, one value more from each start of its sender on, and one
@@ -42,10 +33,10 @@ pub fn holding_of(link: Link, steps: &[Step]) -> Holding
     let mut used = 0u128;
     let mut most = made;
     for step in steps {
-        if is_start(*step, link.sender as usize) {
+        if is_accepted(step, Call::Start(link.sender as usize)) {
             made += 1;
         }
-        if is_finish(*step, link.receiver as usize) {
+        if is_accepted(step, Call::Finish(link.receiver as usize)) {
             used += 1;
         }
         most = most.max(made.saturating_sub(used));
