@@ -13,7 +13,8 @@ pub(crate) fn refused(refusal: Refusal) -> Fault
     Fault::new(refusal, Layer::Guard, 0)
 }
 
-/// Whether no kind with this largest size can keep this count and size.
+/// Whether no kind with this largest size can keep this count and size. What the two kinds share of `fresh` is this: each
+/// makes a record of its own.
 pub(crate) fn unfit(largest: u32, count: u32, size: u32) -> bool
     ensures { result ≡ unfit largest count size }
 {

@@ -15,7 +15,8 @@ const TOO_SHORT: Fault = Fault {
     place: 0,
 };
 
-/// Copies bytes into the output from a place on, and answers where they end.
+/// Copies bytes into the output from a place on, and answers where they end. The place stays a number beside the output, which
+/// is the caller's: a struct of both would be made for two functions.
 fn put(bytes: &[u8], out: &mut [u8], at: usize) -> usize
     requires { at + length bytes.now ≤ length out.old }
     ensures end { result ≡ at + length bytes.now }

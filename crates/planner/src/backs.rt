@@ -18,7 +18,8 @@ impl Ground<'_, '_> {
         self.same_part(p, u) && self.opens_group(u) && self.is_end(end, u)
     }
 
-    // The lowest actor of the first such group in the part of p, or p.
+    // The lowest actor of the first such group in the part of p, or p. This and the next differ in the side that is searched
+    // from: one function over both would take the search as a closure.
     fn first_group(&self, end: End, p: usize) -> usize
         requires { p < length self.now.actors.now }
         ensures value { result ≡ first_or p (groups_of (seen self.now) end p) }
@@ -71,7 +72,7 @@ impl Ground<'_, '_> {
         requires { p < length self.now.actors.now }
         ensures { listed found.new ≡ take 15 (listed found.old ++ chain (seen self.now) None (groups_of (seen self.now) end p)) }
     {
-        // Not over a `filter`: a head is joined to the one before it, which is kept from turn to turn.
+        // The `if` says what a `filter` would, and the head before is kept from turn to turn.
         let mut earlier = None;
         for u in 0..self.actors.len() {
             if self.heads(end, p, u) {

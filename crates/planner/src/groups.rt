@@ -41,7 +41,7 @@ impl Ground<'_, '_> {
         !self.reaches(u, v) || self.reaches(v, u)
     }
 
-    // Whether no edge from outside enters the group of u, or none leaves it.
+    // Whether no edge from outside enters the group of u, or none leaves it. The kind is matched here alone, as in the definition.
     pub(crate) fn is_end(&self, end: End, u: usize) -> bool
         requires { u < length self.now.actors.now }
         ensures { let g = seen self.now in result ≡ end_group end (count g) g.delays u }
@@ -53,7 +53,8 @@ impl Ground<'_, '_> {
         }
     }
 
-    // Whether u is the lowest actor of its group.
+    // Whether u is the lowest actor of its group. This and the next differ in the relation that is asked, and each is one
+    // expression: one function over both would take a closure.
     pub(crate) fn opens_group(&self, u: usize) -> bool
         requires { u < length self.now.actors.now }
         ensures { let g = seen self.now in result ≡ opens_group (count g) g.delays u }

@@ -49,6 +49,7 @@ impl Graph<'_> {
         requires ends { (edge.sender < length self.now.actors.now) × (edge.receiver < length self.now.actors.now) }
         ensures { cells.new ≡ lay_seen sight T.ops (length self.now.actors.now) cells.old edge }
     {
+        // The sight is matched here alone, as in the definition; a closure for it would travel through five functions.
         match sight {
             Sight::Directed => self.lay_edge(cells, edge),
             Sight::Loose => {

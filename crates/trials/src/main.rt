@@ -50,6 +50,7 @@ impl Tallies {
     }
 
     fn try_stored(&mut self, heap: Global, stored: &Stored<'_>) -> io::Result<()> {
+        // The kind of guard is a type, which only a match can pick.
         match stored.kind {
             Kind::Counter => self.try_kind::<Counter>(heap, stored),
             Kind::Pointers => self.try_kind::<Pointers>(heap, stored),

@@ -28,6 +28,7 @@ fn change_link(words: &mut Words<'_>, links: &mut [Link]) {
         sender: small_number(words),
         receiver: small_number(words),
         delay: small_number(words),
+        // A number, since runs are opened on bad marks on purpose.
         mark: u8::try_from(words.number()).unwrap_or(u8::MAX),
         size: small_number(words),
     };

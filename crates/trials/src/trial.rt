@@ -57,7 +57,8 @@ fn run_through<G: Guard>(
     Ok(run.close())
 }
 
-// Makes the calls as a rehearsal, and answers the slip of the plan.
+// Makes the calls as a rehearsal, and answers the slip of the plan. What it shares with the way above is the reading of the text,
+// one call: the tables that this fills are lent to different calls.
 fn rehearse_through<G: Guard>(
     stored: &Stored<'_>,
     row: &mut [G],

@@ -19,6 +19,7 @@ impl<'actors, 'links, 'row, G: Guard> Run<'actors, 'links, 'row, G> {
         ensures stand { Stand (guarded_if (fault_of self.old.tables.sound)) self.old.tables.links.now self.old.row.now self.new.row.now }
         ensures kept { Kept self.old self.new }
     {
+        // A call is data that callers list, so it is matched; closures could not be listed in a table of steps.
         match call {
             Call::Start(actor) => self.start(actor).into(),
             Call::Finish(actor) => self.finish(actor).into(),
