@@ -1,13 +1,35 @@
 // The tables that a stored run is planned in, and the changes that are made in them.
-use reader::Lines;
-use records::{Actor, Link};
+use paths::{Algebra, Delay, Reach};
+use reader::{Counts, Lines, read};
+use records::{Actor, Fault, Link};
 use words::Words;
 
 pub const ACTORS: usize = 128;
 
 pub const LINKS: usize = 512;
 
-pub const PAIRS: usize = 4096;
+const PAIRS: usize = 4096;
+
+/// The memory that a stored run is planned in.
+#[derive(Drop)]
+pub struct Tables {
+    pub actors: [Actor; ACTORS],
+    pub links: [Link; LINKS],
+    pub delays: [Delay; PAIRS],
+    pub reach: [Reach; PAIRS],
+}
+
+/// The tables that a text fills, and how far.
+pub fn drawn(text: &[u8]) -> Result<(Tables, Counts), Fault> {
+    let mut tables = Tables {
+        actors: [Actor::default(); ACTORS],
+        links: [Link::default(); LINKS],
+        delays: [Delay::none(); PAIRS],
+        reach: [Reach::none(); PAIRS],
+    };
+    let counts = read(text, &mut tables.actors, &mut tables.links)?;
+    Ok((tables, counts))
+}
 
 // The next number, or the largest that a record can hold.
 fn small_number(words: &mut Words<'_>) -> u32 {

@@ -1,13 +1,11 @@
 // One stored run tried: by its calls, one after the other, or as a rehearsal.
 use crate::calls::steps_of;
 use crate::stored::Stored;
-use crate::tables::{ACTORS, LINKS, PAIRS, change};
+use crate::tables::{ACTORS, LINKS, Tables, change, drawn};
 use crate::transcript::{STALE, transcript};
 use guards::Guard;
-use paths::{Algebra, Delay, Reach};
 use planner::{Slip, plan};
-use reader::read;
-use records::{Actor, Fault, Link};
+use records::Fault;
 use running::Step;
 use runs::{Run, open, rehearse};
 use std::alloc::Global;
@@ -35,14 +33,16 @@ fn run_through<G: Guard>(
     row: &mut [G],
     steps: &mut [Step],
 ) -> Result<Slip, Fault> {
-    let mut actors = [Actor::default(); ACTORS];
-    let mut links = [Link::default(); LINKS];
-    let mut delays = [Delay::none(); PAIRS];
-    let mut reach = [Reach::none(); PAIRS];
-    let counts = read(stored.text, &mut actors, &mut links)?;
+    let (tables, counts) = drawn(stored.text)?;
+    let Tables {
+        mut actors,
+        mut links,
+        mut delays,
+        mut reach,
+    } = tables;
     let n = counts.actors.min(ACTORS);
     let slip = plan(
-        &actors[0..n],
+        &actors[..n],
         &mut links,
         counts.links,
         counts.lead,
@@ -52,26 +52,27 @@ fn run_through<G: Guard>(
     change(stored.changes, &mut actors, &mut links);
     let a = stored.actors.min(ACTORS);
     let l = stored.links.min(LINKS);
-    let mut run = open(slip, &actors[0..a], &links[0..l], row);
+    let mut run = open(slip, &actors[..a], &links[..l], row);
     make_calls(&mut run, steps);
     Ok(run.close())
 }
 
-// Makes the calls as a rehearsal, and answers the slip of the plan. What it shares with the way above is the reading of the text,
-// one call: the tables that this fills are lent to different calls.
+// Makes the calls as a rehearsal, and answers the slip of the plan.
 fn rehearse_through<G: Guard>(
     stored: &Stored<'_>,
     row: &mut [G],
     steps: &mut [Step],
 ) -> Result<Slip, Fault> {
-    let mut actors = [Actor::default(); ACTORS];
-    let mut links = [Link::default(); LINKS];
-    let mut delays = [Delay::none(); PAIRS];
-    let mut reach = [Reach::none(); PAIRS];
-    let counts = read(stored.text, &mut actors, &mut links)?;
+    let (tables, counts) = drawn(stored.text)?;
+    let Tables {
+        actors,
+        mut links,
+        mut delays,
+        mut reach,
+    } = tables;
     let n = counts.actors.min(ACTORS);
     rehearse(
-        &actors[0..n],
+        &actors[..n],
         &mut links,
         counts.links,
         counts.lead,
