@@ -38,7 +38,7 @@ impl Memory {
         Memory {
             actors: [Actor::default(); ACTORS],
             links: [Link::default(); LINKS],
-            delays: [Delay::none(); PAIRS],
+            delays: [Delay::stay(); PAIRS],
             reach: [Reach::none(); PAIRS],
             out: [UNTOUCHED; OUT],
         }

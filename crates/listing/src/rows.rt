@@ -1,4 +1,5 @@
-// The lines of a listing, one by one.
+// The lines of a listing, one by one. They are pushed piece by piece: the contract of `write!` lets it fail where there is room,
+// and a listing has no such refusal.
 ghost use Rattle.std.specs.Prelude.{◌≡◌};
 ghost use Rattle.listing.specs.Lines.{head_line, link_line, cost_line, refusal_line};
 

@@ -49,7 +49,7 @@ pub fn close<T: Algebra>(cells: &mut [T], n: usize) -> Result<(), Fault>
     if n.checked_mul(n).is_none_or(|count| count > cells.len()) {
         return Err(Fault::new(Refusal::ShortWorkspace, Layer::Table, 0));
     }
-    // By number: each round lets paths go on by way of one vertex more.
+    // By number, since a round is that of the vertex with this number.
     for k in 0..n {
         relax_all(cells, n, k);
     }

@@ -5,36 +5,24 @@ use Rattle.std.specs.Option.{option_map}
 use Rattle.std.proofs.lemmas.Iterator.Adapters.{position_from-zero}
 use Rattle.records.specs.declared.fault.Fault.{Fault}
 use Rattle.records.specs.declared.fault.Layer.{Layer}
-use Rattle.records.specs.Faults.{fault}
+use Rattle.records.specs.Faults.{fault, refused_at}
 use Rattle.records.specs.declared.refusal.Refusal.{Refusal}
 use Rattle.planning.specs.Checks.{refuse_first}
 use Rattle.planner.proofs.Counting.{same_number}
 
 module _ (why : Refusal) (layer : Layer) where
-  -- the refusal at a place that was found
-  abbrev refuse_at : Option ℕ → Result Unit Fault
-  refuse_at None = Ok tt
-  refuse_at (Some i) = Err (fault why layer i)
-
-  refuse_choice : (b : Bool) (k : ℕ) (o : Option ℕ) → cond b (Err (fault why layer k)) (refuse_at o) ≡ refuse_at (cond b (Some k) o)
+  refuse_choice : (b : Bool) (k : ℕ) (o : Option ℕ) → cond b (Err (fault why layer k)) (refused_at why layer o) ≡ refused_at why layer (cond b (Some k) o)
   refuse_choice true k o = refl
   refuse_choice false k o = refl
 
   module _ {X : Type 0} (bad : X → Bool) where
-    refuse_from : (k : ℕ) (xs : List X) → refuse_first bad why layer k xs ≡ refuse_at (position_from bad k xs)
+    refuse_from : (k : ℕ) (xs : List X) → refuse_first bad why layer k xs ≡ refused_at why layer (position_from bad k xs)
     refuse_from k [] = refl
     refuse_from k (x ∷ xs) =
         ap (cond (bad x) (Err (fault why layer k))) (refuse_from (k + 1) xs) ∙ refuse_choice (bad x) k (position_from bad (k + 1) xs)
 
-    refuse_position : (xs : List X) (r : Option ℕ) → r ≡ position bad xs → refuse_first bad why layer 0 xs ≡ refuse_at r
-    refuse_position xs r found = refuse_from 0 xs ∙ ap refuse_at (sym (found ∙ position_from-zero bad xs))
-
-    pub position_refuses : (xs : List X) (i : ℕ) (f : Fault) (r : Option ℕ) → r ≡ Some i → r ≡ position bad xs → f ≡ fault why layer i
-        → Err f ≡ refuse_first bad why layer 0 xs
-    position_refuses xs i f r at found is = ap Err is ∙ ap refuse_at (sym at) ∙ sym (refuse_position xs r found)
-
-    pub position_passes : (xs : List X) (r : Option ℕ) → r ≡ None → r ≡ position bad xs → Ok tt ≡ refuse_first bad why layer 0 xs
-    position_passes xs r at found = ap refuse_at (sym at) ∙ sym (refuse_position xs r found)
+    pub refuse_position : (xs : List X) (r : Option ℕ) → r ≡ position bad xs → refuse_first bad why layer 0 xs ≡ refused_at why layer r
+    refuse_position xs r found = refuse_from 0 xs ∙ ap (refused_at why layer) (sym (found ∙ position_from-zero bad xs))
 
   -- of the numbers below another
   module _ (bad : ℕ → Bool) where
@@ -42,14 +30,6 @@ module _ (why : Refusal) (layer : Layer) where
     found_from a zero = refl
     found_from a (suc k) = ap (cond (bad a) (Some a)) (found_from (a + 1) k)
 
-    refuse_found : (n : ℕ) (r : Option ℕ) → option_map (λ x. x) r ≡ find bad (range_with_len 0 n) → refuse_first bad why layer 0 (range_with_len 0 n) ≡ refuse_at r
+    pub refuse_found : (n : ℕ) (r : Option ℕ) → option_map (λ x. x) r ≡ find bad (range_with_len 0 n) → refuse_first bad why layer 0 (range_with_len 0 n) ≡ refused_at why layer r
     refuse_found n r found =
-        refuse_from bad 0 (range_with_len 0 n) ∙ ap refuse_at (sym (sym (same_number r) ∙ found ∙ found_from 0 n))
-
-    pub found_refuses : (n i : ℕ) (r : Option ℕ) → r ≡ Some i → option_map (λ x. x) r ≡ find bad (range_with_len 0 n)
-        → Err (fault why layer i) ≡ refuse_first bad why layer 0 (range_with_len 0 n)
-    found_refuses n i r at found = ap refuse_at (sym at) ∙ sym (refuse_found n r found)
-
-    pub found_passes : (n : ℕ) (r : Option ℕ) → r ≡ None → option_map (λ x. x) r ≡ find bad (range_with_len 0 n)
-        → Ok tt ≡ refuse_first bad why layer 0 (range_with_len 0 n)
-    found_passes n r at found = ap refuse_at (sym at) ∙ sym (refuse_found n r found)
+        refuse_from bad 0 (range_with_len 0 n) ∙ ap (refused_at why layer) (sym (sym (same_number r) ∙ found ∙ found_from 0 n))

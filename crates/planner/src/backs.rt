@@ -19,7 +19,7 @@ impl Ground<'_, '_> {
     }
 
     // The lowest actor of the first such group in the part of p, or p. This and the next differ in the side that is searched
-    // from: one function over both would take the search as a closure.
+    // from: a function that takes the search as a closure would be longer than both, by the clauses about the closure.
     fn first_group(&self, end: End, p: usize) -> usize
         requires { p < length self.now.actors.now }
         ensures value { result ≡ first_or p (groups_of (seen self.now) end p) }
@@ -72,7 +72,7 @@ impl Ground<'_, '_> {
         requires { p < length self.now.actors.now }
         ensures { listed found.new ≡ take 15 (listed found.old ++ chain (seen self.now) None (groups_of (seen self.now) end p)) }
     {
-        // The `if` says what a `filter` would, and the head before is kept from turn to turn.
+        // An `if` in place of a `filter`, whose proof would go by the calls that the filter makes.
         let mut earlier = None;
         for u in 0..self.actors.len() {
             if self.heads(end, p, u) {
@@ -107,7 +107,7 @@ impl Ground<'_, '_> {
         ensures { listed result ≡ backs (seen self.now) lead }
     {
         let mut found = BackLinks::new();
-        // By number, since a part goes by the number of its lowest actor.
+        // By number and with an `if`, likewise: a part goes by the number of its lowest actor.
         for p in 0..self.actors.len() {
             if self.wants_backs(p) {
                 self.add_part(p, lead, &mut found);

@@ -56,10 +56,11 @@ fn is_bad_actor(actor: &Actor) -> bool
 pub(crate) fn check_actors(actors: &[Actor]) -> Result<(), Fault>
     ensures { result ≡ refuse_first bad_actor Refusal.BadActor Table 0 actors.now }
 {
-    match actors.iter().position(is_bad_actor) {
-        Some(i) => Err(Fault::new(Refusal::BadActor, Layer::Table, i)),
-        None => Ok(()),
-    }
+    Fault::at_found(
+        actors.iter().position(is_bad_actor),
+        Refusal::BadActor,
+        Layer::Table,
+    )
 }
 
 fn is_bad_link(link: &Link, n: usize) -> bool
@@ -71,10 +72,11 @@ fn is_bad_link(link: &Link, n: usize) -> bool
 pub(crate) fn check_links(links: &[Link], n: usize) -> Result<(), Fault>
     ensures { result ≡ refuse_first (bad_link n) Refusal.BadLink Table 0 links.now }
 {
-    match links.iter().position(|link| is_bad_link(link, n)) {
-        Some(i) => Err(Fault::new(Refusal::BadLink, Layer::Table, i)),
-        None => Ok(()),
-    }
+    Fault::at_found(
+        links.iter().position(|link| is_bad_link(link, n)),
+        Refusal::BadLink,
+        Layer::Table,
+    )
 }
 
 // All that is refused about counts, tables and numbers.
@@ -98,12 +100,9 @@ pub(crate) fn check_tables(
 pub(crate) fn check_cycles(free: &Pairs<Reach>) -> Result<(), Fault>
     ensures { result ≡ check_cycles free.now.n free.now.cells.now }
 {
-    match (0..free.n).find(|u| free.at(*u, *u).yes) {
-        Some(u) => Err(Fault {
-            refusal: Refusal::Deadlock,
-            layer: Layer::Plan,
-            place: u,
-        }),
-        None => Ok(()),
-    }
+    Fault::at_found(
+        (0..free.n).find(|u| free.at(*u, *u).yes),
+        Refusal::Deadlock,
+        Layer::Plan,
+    )
 }

@@ -53,8 +53,8 @@ impl Ground<'_, '_> {
         }
     }
 
-    // Whether u is the lowest actor of its group. This and the next differ in the relation that is asked, and each is one
-    // expression: one function over both would take a closure.
+    // Whether u is the lowest actor of its group. This and the next differ in the relation that is asked: a function that
+    // takes it as a closure would be longer than both, by the clauses about the closure.
     pub(crate) fn opens_group(&self, u: usize) -> bool
         requires { u < length self.now.actors.now }
         ensures { let g = seen self.now in result ≡ opens_group (count g) g.delays u }

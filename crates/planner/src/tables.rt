@@ -18,7 +18,7 @@ fn clear<T: Algebra>(cells: &mut [T], count: usize)
     requires { count ≤ length cells.old }
     ensures { cells.new ≡ replicate count T.ops.none ++ drop count cells.old }
 {
-    // Tried as `fill`, whose clones a type parameter does not promise, and `fill_with`, which the checker does not cover.
+    // Tried as `fill`, whose clones a type parameter does not promise; the checker does not cover `fill_with(T::none)`.
     for cell in &mut cells[..count] {
         *cell = T::none();
     }

@@ -26,5 +26,5 @@ number_next l = l.number
 -- the first of the lines is given with its number, and the others are left; at the end none is
 abbrev pub TakesLine : Lines → Option (ℕ × Bor (List ℕ)) → Lines → Type 0
 TakesLine s r t =
-    MatchOption r ((lines_left s ≡ []) × (lines_left t ≡ []))
+    MatchOption r ((lines_left s ≡ []) × (lines_left t ≡ []) × (number_next t ≡ number_next s))
     (λ x. (lines_left s ≡ x.1.now ∷ lines_left t) × (x.0 ≡ number_next s) × (number_next t ≡ number_next s + 1))

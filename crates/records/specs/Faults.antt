@@ -1,5 +1,5 @@
 -- Refusals, and how an answer that may be one is told by a number and its values.
-use Rattle.std.specs.Prelude.{ℕ, List, [], ◌∷◌, Ok, Err, Result}
+use Rattle.std.specs.Prelude.{ℕ, List, [], ◌∷◌, Some, None, Ok, Err, Option, Result}
 use Rattle.records.specs.declared.fault.Fault.{Fault}
 use Rattle.records.specs.declared.fault.Layer.{Layer}
 use Rattle.records.specs.declared.fault.Layer.TheVariants.{Text, Table, Plan, Listing, Run, Guard}
@@ -41,6 +41,11 @@ layer_number Plan = 3
 layer_number Listing = 4
 layer_number Run = 5
 layer_number Guard = 6
+
+-- refused at the place that was found, if one was
+abbrev pub refused_at : Refusal → Layer → Option ℕ → Result Unit Fault
+refused_at r l None = Ok tt
+refused_at r l (Some place) = Err (fault r l place)
 
 -- the values of a refusal: its layer's number and its place
 abbrev pub refusal_values : Fault → List ℕ

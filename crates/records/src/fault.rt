@@ -1,6 +1,6 @@
 // One refusal: why, which layer refused, and the place.
-ghost use Rattle.std.specs.Prelude.{◌≡◌, ◌≤◌, length, Some};
-ghost use Rattle.records.specs.Faults.{fault};
+ghost use Rattle.std.specs.Prelude.{◌≡◌, ◌≤◌, [], length, Some};
+ghost use Rattle.records.specs.Faults.{fault, refused_at, told};
 ghost use Rattle.records.specs.Words.{layer_word, refusal_text};
 
 use crate::refusal::Refusal;
@@ -66,6 +66,17 @@ impl Fault {
             refusal,
             layer,
             place,
+        }
+    }
+
+    /// Refuses for this reason at the place that was found, if one was.
+    pub fn at_found(found: Option<usize>, refusal: Refusal, layer: Layer) -> Result<(), Fault>
+        ensures answer { result ≡ refused_at refusal layer found }
+        ensures view { told (λ _. []) result ≡ told (λ _. []) (refused_at refusal layer found) }
+    {
+        match found {
+            Some(place) => Err(Fault::new(refusal, layer, place)),
+            None => Ok(()),
         }
     }
 }

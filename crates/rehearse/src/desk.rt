@@ -17,7 +17,7 @@ const PAIRS: usize = 4096;
 /// Reads a drawing, plans it into the links, and makes the calls of the steps in a run of the plan.
 pub fn rehearse_text(text: &[u8], links: &mut [Link], steps: &mut [Step]) -> Result<Slip, Fault> {
     let mut actors = [Actor::default(); ACTORS];
-    let mut delays = [Delay::none(); PAIRS];
+    let mut delays = [Delay::stay(); PAIRS];
     let mut reach = [Reach::none(); PAIRS];
     let counts = read(text, &mut actors, links)?;
     let mut row = [Pointers::fresh(0, 1)?; LINKS];

@@ -29,7 +29,7 @@ pub fn holding_of(link: Link, steps: &[Step]) -> Holding
     ensures held { result.held ≡ held_after link steps.now }
     ensures most { Most link steps.now result.most }
 {
-    let mut made = link.delay as u128;
+    let mut made = u128::from(link.delay);
     let mut used = 0u128;
     let mut most = made;
     for step in steps {

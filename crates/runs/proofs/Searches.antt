@@ -12,9 +12,9 @@ use Rattle.records.specs.declared.tables.Actor.{Actor}
 use Rattle.records.specs.declared.tables.Link.{Link}
 use Rattle.records.specs.Tables.{processor_of}
 use Rattle.planning.specs.Checks.{refuse_first}
+use Rattle.records.specs.Faults.{refused_at}
 use Rattle.records.specs.declared.refusal.Refusal.{Refusal}
 use Rattle.guards.specs.Levels.{Level}
-use Rattle.running.specs.Entries.{refuse_at}
 use Rattle.running.specs.Rows.{first_link}
 use Rattle.running.specs.Runs.{far_processor, first_on, first_turn, or_else, turn_after}
 use denote.Param.Members.{Mut}
@@ -27,19 +27,19 @@ pub position_on : (p k : ℕ) (xs : List Actor) → position_from (λ x. eqb x.p
 position_on p k [] = refl
 position_on p k (x ∷ xs) = ap (cond (eqb x.processor p) (Some k)) (position_on p (k + 1) xs)
 
-position_refuses : {X : Type 0} (bad : X → Bool) (why : Refusal) (k : ℕ) (xs : List X) → refuse_at why (position_from bad k xs) ≡ refuse_first bad why Run k xs
+position_refuses : {X : Type 0} (bad : X → Bool) (why : Refusal) (k : ℕ) (xs : List X) → refused_at why Run (position_from bad k xs) ≡ refuse_first bad why Run k xs
 position_refuses bad why k [] = refl
 position_refuses bad why k (x ∷ xs) = by_test (bad x) (position_refuses bad why (k + 1) xs)
   where
-    by_test : (b : Bool) → refuse_at why (position_from bad (k + 1) xs) ≡ refuse_first bad why Run (k + 1) xs
-        → refuse_at why (cond b (Some k) (position_from bad (k + 1) xs)) ≡ cond b (refuse_at why (Some k)) (refuse_first bad why Run (k + 1) xs)
+    by_test : (b : Bool) → refused_at why Run (position_from bad (k + 1) xs) ≡ refuse_first bad why Run (k + 1) xs
+        → refused_at why Run (cond b (Some k) (position_from bad (k + 1) xs)) ≡ cond b (refused_at why Run (Some k)) (refuse_first bad why Run (k + 1) xs)
     by_test true e = refl
     by_test false e = e
 
 -- what is refused where a search by position found o
 pub refused_by : {X : Type 0} (bad : X → Bool) (why : Refusal) (xs : List X) (o : Option ℕ) → o ≡ cond (ltb (position_or_len bad xs) (length xs)) (Some (position_or_len bad xs)) None
-    → refuse_at why o ≡ refuse_first bad why Run 0 xs
-refused_by bad why xs o e = ap (refuse_at why) (e ∙ position_from-zero bad xs) ∙ position_refuses bad why 0 xs
+    → refused_at why Run o ≡ refuse_first bad why Run 0 xs
+refused_by bad why xs o e = ap (refused_at why Run) (e ∙ position_from-zero bad xs) ∙ position_refuses bad why 0 xs
 
 -- a link and its guard, looked for together
 pub position_of_pair : {G : Type 0} (fails : Link → Level → Bool) (means : G → Level) (k : ℕ) (links : List Link) (row : List G)

@@ -42,6 +42,7 @@ fn is_unfit(link: Link, n: usize, largest: u32) -> bool
 {
     link.sender as usize >= n
         || link.receiver as usize >= n
+        // A mark that is none of the four.
         || link.mark > Mark::Back.number()
         || !link.has_mark(Mark::Local) && (link.size == 0 || link.size < link.delay)
         || is_guarded(link) && link.size > largest
@@ -50,10 +51,11 @@ fn is_unfit(link: Link, n: usize, largest: u32) -> bool
 fn check_links(links: &[Link], n: usize, largest: u32) -> Result<(), Fault>
     ensures { result ≡ refuse_first (unfit_link largest n) Refusal.UnfitLink Run 0 links.now }
 {
-    match links.iter().position(|link| is_unfit(*link, n, largest)) {
-        Some(place) => Err(Fault::new(Refusal::UnfitLink, Layer::Run, place)),
-        None => Ok(()),
-    }
+    Fault::at_found(
+        links.iter().position(|link| is_unfit(*link, n, largest)),
+        Refusal::UnfitLink,
+        Layer::Run,
+    )
 }
 
 /// The actors that the slip speaks of.

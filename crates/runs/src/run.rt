@@ -31,6 +31,7 @@ pub struct Run<'actors, 'links, 'row, G: Guard> {
     slip: Slip,
     tables: Tables<'actors, 'links>,
     row: &'row mut [G],
+    // Arrays, since nothing is allocated: one entry for each actor that a drawing can have, one turn for each processor.
     entries: [Entry; ENTRIES],
     turns: [usize; PROCESSORS],
 }

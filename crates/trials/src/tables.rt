@@ -24,7 +24,7 @@ pub fn drawn(text: &[u8]) -> Result<(Tables, Counts), Fault> {
     let mut tables = Tables {
         actors: [Actor::default(); ACTORS],
         links: [Link::default(); LINKS],
-        delays: [Delay::none(); PAIRS],
+        delays: [Delay::stay(); PAIRS],
         reach: [Reach::none(); PAIRS],
     };
     let counts = read(text, &mut tables.actors, &mut tables.links)?;

@@ -11,7 +11,8 @@ use runs::{Run, open, rehearse};
 use std::alloc::Global;
 use std::io;
 
-/// How the calls of a stored run are made. An enum, since a closure for each way would have to answer two questions.
+/// How the calls of a stored run are made. An enum of two, each matched in two short functions: a trait would need two types and
+/// two blocks to say it.
 #[derive(Clone, Copy)]
 pub enum Way {
     /// In a run that is opened on the stored lengths, after the changes.
@@ -20,7 +21,7 @@ pub enum Way {
     Rehearsed,
 }
 
-// Makes the calls one after the other, and writes down what each answers.
+// Makes the calls one after the other, and writes down what each answers. The library's own loop is tried as a rehearsal.
 fn make_calls<G: Guard>(run: &mut Run<G>, steps: &mut [Step]) {
     for step in steps.iter_mut() {
         step.answer = run.call(step.call);

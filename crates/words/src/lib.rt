@@ -63,7 +63,8 @@ impl<'a> Words<'a> {
         word
     }
 
-    /// The number that the next word writes, or the largest if it is larger.
+    /// The number that the next word writes, or the largest if it is larger. The word is taken to be of digits: any other byte
+    /// stands for what it is above the byte `0`, or for 0.
     pub fn number(&mut self) -> usize
         ensures number { result ≡ number_of (word_of self.old) }
         ensures rest { self.new ≡ after_word self.old }

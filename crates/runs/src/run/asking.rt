@@ -15,11 +15,11 @@ fn buffer(link: Link, sender: Entry, receiver: Entry) -> Cells
     requires { 0 < link.size }
     ensures { result ≡ buffer link sender receiver }
 {
-    let made = link.delay as u64 + sender.starts as u64;
+    let made = u64::from(link.delay) + u64::from(sender.starts);
     Cells {
-        held: made.saturating_sub(receiver.finishes as u64),
-        write: made % link.size as u64,
-        read: receiver.starts as u64 % link.size as u64,
+        held: made.saturating_sub(u64::from(receiver.finishes)),
+        write: made % u64::from(link.size),
+        read: u64::from(receiver.starts) % u64::from(link.size),
     }
 }
 
