@@ -12,7 +12,7 @@ const PAIRS: usize = 8192;
 
 const OUT: usize = 32768;
 
-/// What is lent, of which each case uses the front.
+/// What is lent, of which each case uses the front: arrays, which a program brings to a library that allocates nothing.
 #[derive(Drop)]
 pub struct Memory {
     actors: [Actor; ACTORS],

@@ -1,4 +1,5 @@
-// Groups and parts, and who stands for a group.
+// Groups and parts, and who stands for a group. Each function asks that its numbers are those of actors: that is a fact about an
+// argument, and of no value that is kept.
 ghost use Rattle.std.specs.Prelude.{◌≡◌, ◌<◌, ◌≤◌, length};
 ghost use Rattle.planning.specs.declared.End.TheVariants.{Entry, Exit};
 ghost use Rattle.planning.specs.Backs.{count};

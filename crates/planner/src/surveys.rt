@@ -15,7 +15,7 @@ use records::{Actor, Fault, Link};
 // which change nothing), and that no cycle has total delay 0 (refusal 11). Then the first n × n entries of `reach`
 // tell who is reached by delay-free edges, also after refusal 11, and those of `delays` hold the least delays, row by
 // sender. Later entries stand.
-// Both tables have one lifetime, since the graph holds them.
+// What is lent comes one by one, as to `plan`. Both tables have one lifetime, since the graph holds them.
 pub(crate) fn survey<'d>(
     actors: &'d [Actor],
     links: &'d [Link],

@@ -1,4 +1,4 @@
-// The memory that is lent to a rehearsal.
+// The memory that is lent to a rehearsal: arrays, which a program brings to a library that allocates nothing.
 use guards::{Guard, Pointers};
 use paths::{Algebra, Delay, Reach};
 use planner::Slip;

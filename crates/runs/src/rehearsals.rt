@@ -35,6 +35,7 @@ fn run_plan<G: Guard>(
     run.close()
 }
 
+// What planning is lent comes one by one, as to `plan`.
 /// Plans a drawing, opens a run on its plan with these guards, makes the calls one after the other, writes each answer into
 /// its call's record, and closes the run. Answers the slip, or planning's refusal, which leaves guards and calls as they are;
 /// tables and workspaces are left as planning leaves them. If the row is too short, or this kind of guard cannot keep a size, the

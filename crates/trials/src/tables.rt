@@ -10,7 +10,7 @@ pub const LINKS: usize = 512;
 
 const PAIRS: usize = 4096;
 
-/// The memory that a stored run is planned in.
+/// The memory that a stored run is planned in: arrays, which a program brings to a library that allocates nothing.
 #[derive(Drop)]
 pub struct Tables {
     pub actors: [Actor; ACTORS],
