@@ -32,6 +32,7 @@ impl<'a> Cases<'a> {
     }
 }
 
+// The iterator over stored runs of the other program reads its blocks likewise; what a block holds differs from its first word on.
 impl<'a> Iterator for Cases<'a> {
     type Item = Case<'a>;
 

@@ -14,6 +14,7 @@ fn between<'a>(word: &[u8], line: &'a [u8]) -> Option<&'a [u8]>
 }
 
 /// The call that a line makes: `start N`, `finish N` or `cells N`, with the line feed that ends it.
+/// It answers an `Option`, since there is nothing to say of a line that makes none: a `TryFrom` would want an error.
 pub fn call_of(line: &[u8]) -> Option<Call>
     ensures { result ≡ call_of line.now }
 {

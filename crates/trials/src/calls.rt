@@ -4,7 +4,7 @@ use running::{Answer, Call, Step};
 use std::alloc::{AllocError, Global};
 use words::Words;
 
-// The call that a line makes: a word and a number.
+// The call that a line makes: a word and a number. A function and no `From`, which would hide that any other word asks for cells.
 fn call_of(line: &[u8]) -> Call {
     let mut words = Words::new(line);
     let word = words.word();

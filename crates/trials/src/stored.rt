@@ -24,6 +24,7 @@ pub struct Stored<'a> {
     pub expected: &'a [u8],
 }
 
+// A function and no `From`, which would hide that any other word means pointers.
 fn kind_of(word: &[u8]) -> Kind {
     if word == b"counter".as_slice() {
         Kind::Counter
@@ -47,6 +48,7 @@ impl<'a> StoredRuns<'a> {
     }
 }
 
+// The iterator over cases of the other program reads its blocks likewise; what a block holds differs from its first word on.
 impl<'a> Iterator for StoredRuns<'a> {
     type Item = Stored<'a>;
 
