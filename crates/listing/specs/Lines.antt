@@ -2,8 +2,7 @@
 use Rattle.std.specs.Prelude.{ℕ, cond, List, [], ◌∷◌, ◌++◌, codes, decimal, ◌==◌}
 use Rattle.records.specs.declared.fault.Fault.{Fault}
 use Rattle.records.specs.declared.tables.Link.{Link}
-use Rattle.records.specs.Faults.{refusal_number}
-use Rattle.records.specs.Words.{layer_word}
+use Rattle.records.specs.Words.{refusal_text}
 
 -- a number in decimal, after a space
 abbrev pub field : ℕ → List ℕ
@@ -30,4 +29,4 @@ cost_line before after = codes "cost" ++ field before ++ field after ++ 10 ∷ [
 
 -- the one line of a refusal
 unfoldable pub refusal_line : Fault → List ℕ
-refusal_line f = codes "refused" ++ field (refusal_number f.refusal) ++ codes " " ++ layer_word f.layer ++ field f.place ++ 10 ∷ []
+refusal_line f = refusal_text f ++ 10 ∷ []
