@@ -2,10 +2,10 @@
 #![tactic(auto)]
 
 ghost use Rattle.std.specs.Prelude.{◌≡◌, length};
-ghost use Rattle.worked.specs.Examples.{examples, Hold};
-ghost use Rattle.worked.specs.Answered.{worked_calls, Answers};
+ghost use Rattle.worked.specs.Examples.{examples, calls_made, Hold};
 
-/// How many worked examples there are. Each of them holds: its text is listed, by the definitions, as it says.
+/// How many worked examples there are. Each of them holds, by the definitions: its text is listed as it says, and the calls in a
+/// run of its plan are answered as it says.
 pub fn worked_examples() -> usize
     ensures hold { Hold examples }
     ensures count { result ≡ length examples }
@@ -13,10 +13,10 @@ pub fn worked_examples() -> usize
     8
 }
 
-/// How many worked calls there are, on a run of the first example's plan. They are answered, by the definitions, as it says.
+/// How many calls the worked examples make. Each of them is answered, by the definitions, as its example says.
 pub fn worked_calls() -> usize
-    ensures hold { Answers worked_calls }
-    ensures count { result ≡ length worked_calls.calls }
+    ensures hold { Hold examples }
+    ensures count { result ≡ calls_made examples }
 {
     11
 }
