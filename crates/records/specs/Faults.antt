@@ -4,7 +4,7 @@ use Rattle.records.specs.declared.fault.Fault.{Fault}
 use Rattle.records.specs.declared.fault.Layer.{Layer}
 use Rattle.records.specs.declared.fault.Layer.TheVariants.{Text, Table, Plan, Listing, Run, Guard}
 use Rattle.records.specs.declared.refusal.Refusal.{Refusal}
-use Rattle.records.specs.declared.refusal.Refusal.TheVariants.{Misshaped, NoNumber, OutOfOrder, NoRoom, ActorCount, LinkCount, BadLead, ShortWorkspace, BadActor, BadLink, Deadlock, ShortOutput, UnfitTables, UnfitLink, Unknown, TooManyStarts, NotItsTurn, EmptyLink, Resting, Empty, Full, UnfitLevel}
+use Rattle.records.specs.declared.refusal.Refusal.TheVariants.{Misshaped, NoNumber, OutOfOrder, NoRoom, ActorCount, LinkCount, BadLead, ShortWorkspace, BadActor, BadLink, Deadlock, ShortOutput, UnfitTables, UnfitLink, Unknown, TooManyStarts, NotItsTurn, EmptyLink, Resting, Empty, Full, UnfitLevel, Other}
 
 abbrev pub fault : Refusal → Layer → ℕ → Fault
 fault r l p = record { refusal = r; layer = l; place = p }
@@ -33,6 +33,7 @@ refusal_number Resting = 21
 refusal_number Empty = 22
 refusal_number Full = 23
 refusal_number UnfitLevel = 24
+refusal_number (Other n) = n
 
 abbrev pub layer_number : Layer → ℕ
 layer_number Text = 1

@@ -6,49 +6,51 @@ ghost use Rattle.records.specs.Faults.{refusal_number};
 #[derive(Clone, Copy, PartialEq, Eq, Debug)]
 pub enum Refusal {
     /// The text is too long, or a line is not made as its letter asks.
-    Misshaped = 1,
+    Misshaped,
     /// A word is no number.
-    NoNumber = 2,
+    NoNumber,
     /// A line stands where none of its kind may.
-    OutOfOrder = 3,
+    OutOfOrder,
     /// There are more actors or links than a drawing or a table takes.
-    NoRoom = 4,
+    NoRoom,
     /// There is no actor, or there are too many.
-    ActorCount = 5,
+    ActorCount,
     /// There are too many links, or the link table has no room for the back links.
-    LinkCount = 6,
+    LinkCount,
     /// The lead is out of range.
-    BadLead = 7,
+    BadLead,
     /// A table over the pairs of actors is too short.
-    ShortWorkspace = 8,
+    ShortWorkspace,
     /// The processor or the estimate of an actor is out of range.
-    BadActor = 9,
+    BadActor,
     /// An end or the delay of a link is out of range.
-    BadLink = 10,
+    BadLink,
     /// An actor waits for itself, since a cycle has no delay.
-    Deadlock = 11,
+    Deadlock,
     /// The output is too short.
-    ShortOutput = 12,
+    ShortOutput,
     /// The tables or the row are too short for the plan, or a processor is out of range.
-    UnfitTables = 15,
+    UnfitTables,
     /// No run can stand on a link as it is, or no guard of this kind can keep its size.
-    UnfitLink = 16,
+    UnfitLink,
     /// There is no actor, or no cross link, with this number.
-    Unknown = 17,
+    Unknown,
     /// The actor has started as often as it can.
-    TooManyStarts = 18,
+    TooManyStarts,
     /// It is not the actor's turn, or its processor runs.
-    NotItsTurn = 19,
+    NotItsTurn,
     /// No value waits on a link into the actor.
-    EmptyLink = 20,
+    EmptyLink,
     /// The actor is resting.
-    Resting = 21,
+    Resting,
     /// No value waits.
-    Empty = 22,
+    Empty,
     /// As many values wait as there can be.
-    Full = 23,
+    Full,
     /// No guard of this kind can keep this count and size.
-    UnfitLevel = 24,
+    UnfitLevel,
+    /// None of the above, by its number: refusals of a caller's own can be told as the library's are. No call answers it.
+    Other(u8),
 }
 
 impl Refusal {
@@ -56,6 +58,30 @@ impl Refusal {
     pub fn number(self) -> u8
         ensures { result ≡ refusal_number self }
     {
-        self as u8
+        match self {
+            Refusal::Misshaped => 1,
+            Refusal::NoNumber => 2,
+            Refusal::OutOfOrder => 3,
+            Refusal::NoRoom => 4,
+            Refusal::ActorCount => 5,
+            Refusal::LinkCount => 6,
+            Refusal::BadLead => 7,
+            Refusal::ShortWorkspace => 8,
+            Refusal::BadActor => 9,
+            Refusal::BadLink => 10,
+            Refusal::Deadlock => 11,
+            Refusal::ShortOutput => 12,
+            Refusal::UnfitTables => 15,
+            Refusal::UnfitLink => 16,
+            Refusal::Unknown => 17,
+            Refusal::TooManyStarts => 18,
+            Refusal::NotItsTurn => 19,
+            Refusal::EmptyLink => 20,
+            Refusal::Resting => 21,
+            Refusal::Empty => 22,
+            Refusal::Full => 23,
+            Refusal::UnfitLevel => 24,
+            Refusal::Other(number) => number,
+        }
     }
 }
