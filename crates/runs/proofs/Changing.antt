@@ -1,5 +1,5 @@
 -- A row changed link by link: one guard after the other, and what it comes to.
-use Rattle.std.proofs.Common.{◌≡◌, ℕ, zero, suc, ◌+◌, ◌<◌, ◌≤◌, Bool, false, List, [], ◌∷◌, map, length, get_or, take, set, sym, ap, ◌∙◌, subst, arith, take_all}
+use Rattle.std.proofs.Common.{◌≡◌, ℕ, zero, suc, ◌+◌, ◌<◌, ◌≤◌, Bool, false, List, [], ◌∷◌, map, length, get_or, take, set, ap, ◌∙◌, subst, arith, take_all}
 use Rattle.std.proofs.lemmas.List.{set-get_or}
 use Rattle.records.specs.declared.tables.Link.{Link}
 use Rattle.records.specs.Tables.{no_link}
@@ -31,11 +31,11 @@ module _ {G : Type 0} (becomes : Link → G → G → Type 0) where
       let next : suc i ≡ i + 1 = omega arith in
       subst (λ k. Changed becomes (take k links) before (set after i v)) next (next_changed i links before after g v hl hr is b c)
 
-  -- past the links a guard is written as it was
+  -- past the links nothing is left to change, and the guard that was looked at stands
   pub changed_past : (i : ℕ) (links : List Link) (before after : List G) (g : G) → length links ≤ i → Changed becomes (take i links) before after
-      → Changed becomes (take (i + 1) links) before (set after i (get_or after i g))
+      → Changed becomes links before (set after i (get_or after i g))
   changed_past i links before after g h c =
-      rw (set-get_or after i g) (subst (λ ls. Changed becomes ls before after) (take_all i links h ∙ sym (take_all (i + 1) links (omega (arith, h)))) c)
+      rw (set-get_or after i g) (subst (λ ls. Changed becomes ls before after) (take_all i links h) c)
 
   pub changed_all : (i : ℕ) (links : List Link) (before after : List G) → length after ≤ i → Changed becomes (take i links) before after → Changed becomes links before after
   changed_all zero [] before after h c = c

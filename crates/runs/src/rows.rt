@@ -94,16 +94,17 @@ fn fresh_guard<G: Guard>(link: Link, guard: G) -> G
     }
 }
 
-// Changes each guard by what its link says; guards past the links stand. A zip of links and `iter_mut` was tried: the proof then
-// knows nothing of the row afterwards, so each link is looked up by its guard's number.
+// Changes each guard by what its link says; guards past the links stand, and are not gone through: a row may be long. A zip of links
+// and `iter_mut` was tried: the proof then knows nothing of the row afterwards, so each link is looked up by its guard's number.
 fn change_each<G: Copy, F: Fn(Link, G) -> G>(links: &[Link], row: &mut [G], change: F)
     requires { (k : ℕ) (guard : G) → k < length links.now → F.pre change (slice_index_or links.now k no_link) guard }
     ensures { Changed (F.post change) links.now row.old row.new }
 {
     for (i, guard) in row.iter_mut().enumerate() {
-        if let Some(link) = links.get(i) {
-            *guard = change(*link, *guard);
-        }
+        let Some(link) = links.get(i) else {
+            break;
+        };
+        *guard = change(*link, *guard);
     }
 }
 
