@@ -1,10 +1,20 @@
 // The blocks of a file of cases: a line of words and numbers, then a text and what is expected of it.
 ghost use Rattle.std.specs.Prelude.{length};
 ghost use Rattle.std.specs.Iterator.{at_most};
+ghost use Rattle.words.specs.Words.{text_left};
 
 use words::Words;
 
-/// One case: the lengths of what is lent, the text, and what is to be listed.
+/// What is expected of a case.
+#[derive(Clone, Copy)]
+pub enum Expected<'a> {
+    /// This listing, and nothing after it.
+    Listing(&'a [u8]),
+    /// The refusal of an output that is too short, which then holds these bytes and nothing else.
+    TooShort(&'a [u8]),
+}
+
+/// One case: the lengths of what is lent, the text, and what is expected.
 #[derive(Clone, Copy)]
 pub struct Case<'a> {
     pub actors: usize,
@@ -13,8 +23,7 @@ pub struct Case<'a> {
     pub reach: usize,
     pub out: usize,
     pub text: &'a [u8],
-    /// None where the output is too short.
-    pub expected: Option<&'a [u8]>,
+    pub expected: Expected<'a>,
 }
 
 /// The cases of a file that are left.
@@ -36,14 +45,15 @@ impl<'a> Cases<'a> {
 impl<'a> Iterator for Cases<'a> {
     type Item = Case<'a>;
 
-    ghost remaining = { λ cases. at_most (length cases.file) };
+    ghost remaining = { λ cases. at_most (length (text_left cases.file)) };
 
     fn next(&mut self) -> Option<Case<'a>> {
         let file = &mut self.file;
         if file.is_empty() {
             return None;
         }
-        let short = file.word() == b"short".as_slice();
+        // The word `short`, or any other of five letters, where the output is too short.
+        let is_short = file.word().len() == 5;
         let _name = file.word();
         let actors = file.number();
         let links = file.number();
@@ -62,7 +72,11 @@ impl<'a> Iterator for Cases<'a> {
             reach,
             out,
             text,
-            expected: if short { None } else { Some(expected) },
+            expected: if is_short {
+                Expected::TooShort(expected)
+            } else {
+                Expected::Listing(expected)
+            },
         })
     }
 }

@@ -1,25 +1,25 @@
 // One case tried: the listing in memory of just the lengths that the case asks for.
-use crate::blocks::Case;
+use crate::blocks::{Case, Expected};
 use listing::list;
-use paths::{Algebra, Delay, Reach};
+use paths::{Delay, Reach};
 use records::{Actor, Link, Refusal};
 
-const ACTORS: usize = 128;
+pub const ACTORS: usize = 128;
 
-const LINKS: usize = 512;
+pub const LINKS: usize = 512;
 
-const PAIRS: usize = 8192;
+pub const PAIRS: usize = 8192;
 
-const OUT: usize = 32768;
+pub const OUT: usize = 32768;
 
 /// What is lent, of which each case uses the front: arrays, which a program brings to a library that allocates nothing.
 #[derive(Drop)]
 pub struct Memory {
-    actors: [Actor; ACTORS],
-    links: [Link; LINKS],
-    delays: [Delay; PAIRS],
-    reach: [Reach; PAIRS],
-    out: [u8; OUT],
+    pub actors: [Actor; ACTORS],
+    pub links: [Link; LINKS],
+    pub delays: [Delay; PAIRS],
+    pub reach: [Reach; PAIRS],
+    pub out: [u8; OUT],
 }
 
 // A byte that no listing has.
@@ -34,16 +34,6 @@ fn holds(out: &[u8], bytes: &[u8]) -> bool {
 }
 
 impl Memory {
-    pub fn new() -> Memory {
-        Memory {
-            actors: [Actor::default(); ACTORS],
-            links: [Link::default(); LINKS],
-            delays: [Delay::stay(); PAIRS],
-            reach: [Reach::none(); PAIRS],
-            out: [UNTOUCHED; OUT],
-        }
-    }
-
     /// Whether the library answers what the case expects, and leaves the rest of the output as it was.
     pub fn agrees(&mut self, case: &Case) -> bool {
         self.out.fill(UNTOUCHED);
@@ -61,8 +51,12 @@ impl Memory {
             &mut self.out[0..out],
         );
         match (answer, case.expected) {
-            (Ok(count), Some(expected)) => count == expected.len() && holds(&self.out, expected),
-            (Err(fault), None) => fault.refusal == Refusal::ShortOutput && holds(&self.out, b""),
+            (Ok(count), Expected::Listing(bytes)) => {
+                count == bytes.len() && holds(&self.out, bytes)
+            }
+            (Err(fault), Expected::TooShort(bytes)) => {
+                fault.refusal == Refusal::ShortOutput && holds(&self.out, bytes)
+            }
             _ => false,
         }
     }

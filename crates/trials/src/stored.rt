@@ -1,6 +1,7 @@
 // The blocks of a file of stored runs: a line of words and numbers, then the parts of one run.
 ghost use Rattle.std.specs.Prelude.{length};
 ghost use Rattle.std.specs.Iterator.{at_most};
+ghost use Rattle.words.specs.Words.{text_left};
 
 use words::Words;
 
@@ -52,7 +53,7 @@ impl<'a> StoredRuns<'a> {
 impl<'a> Iterator for StoredRuns<'a> {
     type Item = Stored<'a>;
 
-    ghost remaining = { λ runs. at_most (length runs.file) };
+    ghost remaining = { λ runs. at_most (length (text_left runs.file)) };
 
     fn next(&mut self) -> Option<Stored<'a>> {
         let file = &mut self.file;

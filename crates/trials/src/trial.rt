@@ -1,11 +1,13 @@
 // One stored run tried: by its calls, one after the other, or as a rehearsal.
 use crate::calls::steps_of;
 use crate::stored::Stored;
-use crate::tables::{ACTORS, LINKS, Tables, change, drawn};
+use crate::tables::{ACTORS, LINKS, PAIRS, Tables, change};
 use crate::transcript::{STALE, transcript};
 use guards::Guard;
+use paths::{Algebra, Delay, Reach};
 use planner::{Slip, plan};
-use records::Fault;
+use reader::{Counts, read};
+use records::{Actor, Fault, Link};
 use running::Step;
 use runs::{Run, open, rehearse};
 use std::alloc::Global;
@@ -31,54 +33,43 @@ fn make_calls<G: Guard>(run: &mut Run<G>, steps: &mut [Step]) {
 // Makes the calls one by one, and answers the slip of the plan.
 fn run_through<G: Guard>(
     stored: &Stored<'_>,
+    tables: &mut Tables,
+    counts: Counts,
     row: &mut [G],
     steps: &mut [Step],
 ) -> Result<Slip, Fault> {
-    let (tables, counts) = drawn(stored.text)?;
-    let Tables {
-        mut actors,
-        mut links,
-        mut delays,
-        mut reach,
-    } = tables;
     let n = counts.actors.min(ACTORS);
     let slip = plan(
-        &actors[..n],
-        &mut links,
+        &tables.actors[..n],
+        &mut tables.links,
         counts.links,
         counts.lead,
-        &mut delays,
-        &mut reach,
+        &mut tables.delays,
+        &mut tables.reach,
     )?;
-    change(stored.changes, &mut actors, &mut links);
+    change(stored.changes, &mut tables.actors, &mut tables.links);
     let a = stored.actors.min(ACTORS);
     let l = stored.links.min(LINKS);
-    let mut run = open(slip, &actors[..a], &links[..l], row);
+    let mut run = open(slip, &tables.actors[..a], &tables.links[..l], row);
     make_calls(&mut run, steps);
     Ok(run.close())
 }
 
 // Makes the calls as a rehearsal, and answers the slip of the plan.
 fn rehearse_through<G: Guard>(
-    stored: &Stored<'_>,
+    tables: &mut Tables,
+    counts: Counts,
     row: &mut [G],
     steps: &mut [Step],
 ) -> Result<Slip, Fault> {
-    let (tables, counts) = drawn(stored.text)?;
-    let Tables {
-        actors,
-        mut links,
-        mut delays,
-        mut reach,
-    } = tables;
     let n = counts.actors.min(ACTORS);
     rehearse(
-        &actors[..n],
-        &mut links,
+        &tables.actors[..n],
+        &mut tables.links,
         counts.links,
         counts.lead,
-        &mut delays,
-        &mut reach,
+        &mut tables.delays,
+        &mut tables.reach,
         row,
         steps,
     )
@@ -105,9 +96,17 @@ fn carry_out<G: Guard>(
     row: &mut [G],
     steps: &mut [Step],
 ) -> Result<Slip, Fault> {
+    // Made here and not by a function, whose answer of this size would lie on the stack more than once.
+    let mut tables = Tables {
+        actors: [Actor::default(); ACTORS],
+        links: [Link::default(); LINKS],
+        delays: [Delay::stay(); PAIRS],
+        reach: [Reach::none(); PAIRS],
+    };
+    let counts = read(stored.text, &mut tables.actors, &mut tables.links)?;
     match way {
-        Way::OneByOne => run_through(stored, row, steps),
-        Way::Rehearsed => rehearse_through(stored, row, steps),
+        Way::OneByOne => run_through(stored, &mut tables, counts, row, steps),
+        Way::Rehearsed => rehearse_through(&mut tables, counts, row, steps),
     }
 }
 

@@ -1,6 +1,11 @@
 -- Words, and the numbers that they write.
 use Rattle.std.specs.Prelude.{ℕ, ◌+◌, ◌-◌, ◌*◌, min, Bool, ◌||◌, List, fold, take, drop, ◌==◌}
 use Rattle.std.specs.List.{position_or_len}
+use Rattle.words.specs.declared.Words.{Words}
+
+-- the bytes that are left
+abbrev pub text_left : Words → List ℕ
+text_left w = w.rest.now
 
 -- a space or a line feed
 abbrev pub ends_word : ℕ → Bool

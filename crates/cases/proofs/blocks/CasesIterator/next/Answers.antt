@@ -1,12 +1,13 @@
 use Rattle.std.proofs.Common.{ℕ, ◌<◌, length, arith, rules}
+use Rattle.words.specs.Words.{text_left}
 use Rattle.words.proofs.Shorter.{part_shorter, word_no_longer, word_shorter}
 use Rattle.cases.proofs.blocks.CasesIterator.next.Goals as goal
 
 -- a case takes a word at least
 pub returns-clause-goes : goal.returns-clause-goes
 returns-clause-goes c =
-    let some : 0 < length c.args.self.now.file = search rules in
-    let shorter : length c.part-end.new.self < length c.args.self.now.file = omega (
+    let some : 0 < length (text_left c.args.self.now.file) = search rules in
+    let shorter : length (text_left c.part-end.new.self) < length (text_left c.args.self.now.file) = omega (
       arith,
       word_shorter c.args.self.now.file c.word.new.self some c.word.ensures.rest,
       word_no_longer c.word.new.self c.word-name.new.self c.word-name.ensures.rest,
