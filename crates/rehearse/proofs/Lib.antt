@@ -1,4 +1,4 @@
 -- Lemmas that are inductions, or that several proofs share.
 pub mod Counting
 pub mod Lines
-mod Gone
+pub mod Taking

@@ -1,6 +1,6 @@
 -- The lines up to the empty one are taken, and what is left begins as far on as that.
 use Rattle.std.proofs.Common.{length, ap, arith}
-use Rattle.rehearse.proofs.Gone.{then_taken}
+use Rattle.rehearse.proofs.Taking.{then_taken}
 use Rattle.rehearse.proofs.parts.parts_of.Goals as goal
 
 pub returns : goal.returns
